@@ -1,6 +1,8 @@
 pub mod ListLemmas
 pub mod RankLemmas
 pub mod SizeLemmas
+pub mod SortRuleLemmas
+pub mod StayLemmas
 pub mod RuleLemmas
 pub mod UniqueLemmas
 pub mod SingleLemmas
@@ -15,3 +17,5 @@ pub mod SignLemmas
 pub mod DepartureLemmas
 pub mod LayerLemmas
 pub mod MadeLemmas
+pub mod CutLemmas
+pub mod GrownLemmas

@@ -3,12 +3,12 @@ use Rattle.std.proofs.Common.{◌≡◌, ℕ, zero, suc, ◌+◌, ◌<◌, ◌�
 use Rattle.std.proofs.lemmas.List.{get_or-set_same, get_or-set_other}
 use Rattle.std.proofs.lemmas.Bool.{cases_order}
 use Rattle.std.proofs.Math.ListN.{set}
-use Rattle.std.proofs.lemmas.Option.{same_Some}
+use Rattle.std.proofs.lemmas.Option.{same_Some, slice_get_within}
 use Rattle.std.specs.Bool.{OnFalse}
 use Rattle.ct_lemmas.proofs.Lists.{slice_get-append_left, slice_get-last}
 use Rattle.ct_card.specs.declared.chain.Rule.{Rule}
-use Rattle.ct_card.proofs.ListLemmas.{pushed_at, none_at}
-use Rattle.ct_card.specs.Rules.{IsDerived, IsReady, AreGrounded}
+use Rattle.ct_card.proofs.ListLemmas.{pushed_at}
+use Rattle.ct_card.specs.Rules.{IsDerived, IsReady, AreGrounded, IsOrder}
 use Rattle.ct_card.specs.Derived.{IsUnderWay, missing_ranks}
 
 -- what stands at an index of a list in which one number was set
@@ -28,9 +28,14 @@ stays ranks head v within fresh b derived =
       | inr (ne, at) ↦ at
     ]
 
-pub IsUnderWay-fired : (rules : List Rule) (ranks order : List ℕ) (k : ℕ) (rule : Rule) → slice_get rules k ≡ Some rule → IsUnderWay rules ranks order → rule.head < length ranks → get_or ranks rule.head 0 ≡ 0 → IsReady ranks rule → IsUnderWay rules (set ranks rule.head (length order + 1)) (order ++ rule.head ∷ [])
-IsUnderWay-fired rules ranks order k rule stated before within fresh ready =
+pub IsUnderWay-fired : (old : List ℕ) (rules : List Rule) (ranks order : List ℕ) (k : ℕ) (rule : Rule) → slice_get rules k ≡ Some rule → IsUnderWay old rules ranks order → rule.head < length ranks → get_or ranks rule.head 0 ≡ 0 → IsReady ranks rule → IsUnderWay old rules (set ranks rule.head (length order + 1)) (order ++ rule.head ∷ [])
+IsUnderWay-fired old rules ranks order k rule stated before within fresh ready =
     record {
+      heads = before.heads;
+      stayed = λ n less. elim (set_at ranks rule.head (length order + 1) n within) [
+        | inl (e, at) ↦ let not_below = before.heads k rule stated in absurd (omega arith)
+        | inr (ne, at) ↦ at ∙ before.stayed n less
+      ];
       grounded = grounded;
       bounded = λ n. elim (set_at ranks rule.head (length order + 1) n within) [
         | inl (e, at) ↦ omega (arith, at, length-append order (rule.head ∷ []))
@@ -42,8 +47,8 @@ IsUnderWay-fired rules ranks order k rule stated before within fresh ready =
     stored : (b : ℕ) → IsDerived ranks b → get_or (set ranks rule.head (length order + 1)) b 0 ≡ get_or ranks b 0
     stored = stays ranks rule.head (length order + 1) within fresh
 
-    grounded : AreGrounded rules (set ranks rule.head (length order + 1))
-    grounded n derived =
+    grounded : AreGrounded (length old) rules (set ranks rule.head (length order + 1))
+    grounded n from derived =
         elim (set_at ranks rule.head (length order + 1) n within) [
           | inl (e, at) ↦ record {
             rule = rule;
@@ -55,7 +60,7 @@ IsUnderWay-fired rules ranks order k rule stated before within fresh ready =
           }
           | inr (ne, at) ↦
               let was : 0 < get_or ranks n 0 = omega arith in
-              let g = before.grounded n was in record {
+              let g = before.grounded n from was in record {
                 rule = g.rule;
                 cause = g.cause;
                 stated = g.stated;
@@ -88,19 +93,35 @@ missing_ranks-set (suc x ∷ xs) zero (suc v) within fresh some = absurd (omega 
 missing_ranks-set (zero ∷ xs) (suc i) v within fresh some = let h = missing_ranks-set xs i v (omega arith) fresh some in omega arith
 missing_ranks-set (suc x ∷ xs) (suc i) v within fresh some = let h = missing_ranks-set xs i v (omega arith) fresh some in omega arith
 
--- all zeros: nothing is derived
-pub IsUnderWay-none : (rules : List Rule) (ranks : List ℕ) → ((n : ℕ) → get_or ranks n 0 ≡ 0) → IsUnderWay rules ranks []
-IsUnderWay-none rules ranks none =
+-- where the order has the derived numbers, no rank is greater than what it is long
+pub ranks_bounded : (ranks order : List ℕ) → IsOrder ranks order → (n : ℕ) → get_or ranks n 0 ≤ length order
+ranks_bounded ranks order is n = by (get_or ranks n 0) refl
+  where
+    by : (rank : ℕ) → get_or ranks n 0 ≡ rank → rank ≤ length order
+    by zero e = omega arith
+    by (suc i) e = let within = slice_get_within order i n (is.of i n e) in omega arith
+
+-- no number past the ranks is derived
+pub past_ranks : (ranks : List ℕ) (n : ℕ) → length ranks ≤ n → get_or ranks n 0 ≡ 0
+past_ranks [] n h = refl
+past_ranks (x ∷ xs) zero h = absurd (omega arith)
+past_ranks (x ∷ xs) (suc n) h = past_ranks xs n (omega arith)
+
+-- at the start there are the earlier ranks, and none for further numbers
+pub IsUnderWay-start : (old : List ℕ) (rules : List Rule) (ranks order : List ℕ) → ((n : ℕ) → get_or ranks n 0 ≡ get_or old n 0) → IsOrder old order → ((k : ℕ) (rule : Rule) → slice_get rules k ≡ Some rule → length old ≤ rule.head) → IsUnderWay old rules ranks order
+IsUnderWay-start old rules ranks order same is heads =
     record {
-      grounded = λ n derived. let e : get_or ranks n 0 ≡ 0 = none n in absurd (omega arith);
-      bounded = λ n. omega (arith, none n);
-      ordered = record { at = λ i n listed. absurd (none_at i n listed); of = λ i n is. absurd (omega (arith, none n, is)) };
+      heads = heads;
+      stayed = λ n less. same n;
+      grounded = λ n from derived. let e : get_or old n 0 ≡ 0 = past_ranks old n from in let f = same n in absurd (omega arith);
+      bounded = λ n. let h = ranks_bounded old order is n in let f = same n in omega arith;
+      ordered = record { at = λ i n listed. same n ∙ is.at i n listed; of = λ i n e. is.of i n (sym (same n) ∙ e) };
     }
 
 -- one round, up to an index: the rules below it are complete if none has fired
-pub record IsRound (rules : List Rule) (initial ranks order : List ℕ) (index : ℕ) (fired : Bool) : Type 0 where
+pub record IsRound (rules : List Rule) (initial initial_order ranks order : List ℕ) (index : ℕ) (fired : Bool) : Type 0 where
   pub long : length ranks ≡ length initial
-  pub under_way : IsUnderWay rules ranks order
+  pub under_way : (old : List ℕ) → IsUnderWay old rules initial initial_order → IsUnderWay old rules ranks order
   pub fewer : fired ≡ true → missing_ranks ranks < missing_ranks initial
   pub same : fired ≡ false → ranks ≡ initial
   pub stable : fired ≡ false → (k : ℕ) (rule : Rule) → k < index → slice_get rules k ≡ Some rule → IsReady ranks rule → IsDerived ranks rule.head
@@ -110,8 +131,8 @@ pub on_false : {P : Type 0} (b : Bool) → (b ≡ false → P) → OnFalse b P
 on_false true h = tt
 on_false false h = h refl
 
-pub round_step : (rules : List Rule) (initial ranks order new_ranks new_order : List ℕ) (index : ℕ) (fired now : Bool) (rule : Rule) → slice_get rules index ≡ Some rule → IsRound rules initial ranks order index fired → length new_ranks ≡ length ranks → IsUnderWay rules new_ranks new_order → (now ≡ true → missing_ranks new_ranks < missing_ranks ranks) → (now ≡ false → new_ranks ≡ ranks) → (now ≡ false → IsReady ranks rule → IsDerived ranks rule.head) → IsRound rules initial new_ranks new_order (index + 1) (fired || now)
-round_step rules initial ranks order new_ranks new_order index true now rule at before long under_way fewer same stable =
+pub round_step : (rules : List Rule) (initial initial_order ranks order new_ranks new_order : List ℕ) (index : ℕ) (fired now : Bool) (rule : Rule) → slice_get rules index ≡ Some rule → IsRound rules initial initial_order ranks order index fired → length new_ranks ≡ length ranks → ((old : List ℕ) → IsUnderWay old rules initial initial_order → IsUnderWay old rules new_ranks new_order) → (now ≡ true → missing_ranks new_ranks < missing_ranks ranks) → (now ≡ false → new_ranks ≡ ranks) → (now ≡ false → IsReady ranks rule → IsDerived ranks rule.head) → IsRound rules initial initial_order new_ranks new_order (index + 1) (fired || now)
+round_step rules initial initial_order ranks order new_ranks new_order index true now rule at before long under_way fewer same stable =
     record {
       long = long ∙ before.long;
       under_way = under_way;
@@ -123,7 +144,7 @@ round_step rules initial ranks order new_ranks new_order index true now rule at 
     by : (b : Bool) → now ≡ b → missing_ranks new_ranks < missing_ranks initial
     by true e = omega (arith, fewer e, before.fewer refl)
     by false e = omega (arith, ap missing_ranks (same e), before.fewer refl)
-round_step rules initial ranks order new_ranks new_order index false true rule at before long under_way fewer same stable =
+round_step rules initial initial_order ranks order new_ranks new_order index false true rule at before long under_way fewer same stable =
     record {
       long = long ∙ before.long;
       under_way = under_way;
@@ -131,7 +152,7 @@ round_step rules initial ranks order new_ranks new_order index false true rule a
       same = λ e. absurd (true≢false e);
       stable = λ e. absurd (true≢false e);
     }
-round_step rules initial ranks order new_ranks new_order index false false rule at before long under_way fewer same stable =
+round_step rules initial initial_order ranks order new_ranks new_order index false false rule at before long under_way fewer same stable =
     record {
       long = long ∙ before.long;
       under_way = under_way;

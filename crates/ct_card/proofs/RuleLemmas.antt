@@ -11,12 +11,19 @@ use Rattle.ct_sorts.specs.Consistent.{IsConsistent}
 use Rattle.ct_sorts.specs.Structure.{HaveOwnConstructors, AreOfTheirSorts, HaveOwnSelectors, AreOfTheirConstructors}
 use Rattle.ct_card.specs.declared.chain.Rule.{Rule}
 use Rattle.ct_card.specs.Dependence.{HasFieldOf, DependsOn}
-use Rattle.ct_card.specs.Rules.{IsDerived, IsReady, IsGrounded, AreRanks}
+use Rattle.ct_card.specs.Rules.{IsDerived, IsReady, IsComplete, HaveStayed, IsGrounded, AreRanks}
 use Rattle.ct_card.specs.Ranked.{HasOtherCount, HasLower, AreSeveral, IsBuiltLower, AreSmall}
 use Rattle.ct_card.specs.Fields.{field_sort, sels_of, ctor_fields, ctors_of, sort_fields}
-use Rattle.ct_card.specs.Ruled.{IsCountRule, IsFieldRule, AreSeveralRules, AreSmallRules}
+use Rattle.ct_card.specs.Ruled.{IsCountRule, IsFieldRule, HasRule, AreSeveralRules, IsSmallRule, AreSmallRules}
+use Rattle.ct_card.specs.Derived.{AreHeadsWithin}
+use Rattle.ct_card.specs.Extended.{IsLater}
 use Rattle.ct_card.proofs.ListLemmas.{none_at, flat_source}
-use Rattle.ct_card.proofs.SizeLemmas.{derived_within}
+use Rattle.ct_card.proofs.SizeLemmas.{derived_within, zero_of}
+use Rattle.ct_card.proofs.StayLemmas.{sort_stays, sort_was, step_stays, step_was, count_stays, count_was}
+
+-- a number is below another or not
+pub cases_below : (m n : ℕ) → (m < n) ⊎ (n ≤ m)
+cases_below m n = elim (cases_order m n) [ inl e ↦ inr (omega arith) | inr (inl less) ↦ inl less | inr (inr more) ↦ inr (omega arith) ]
 
 module _ (d : Declarations) (consistent : IsConsistent d) (own : HaveOwnConstructors d) (own_sels : HaveOwnSelectors d) (of_sorts : AreOfTheirSorts d) (of_ctors : AreOfTheirConstructors d) where
   pub sels_at : (c : CtorId) (ctor : Constructor) → slice_get d.ctors c.0 ≡ Some ctor → sels_of d c ≡ ctor.sels
@@ -74,181 +81,209 @@ module _ (d : Declarations) (consistent : IsConsistent d) (own : HaveOwnConstruc
   ready_one : (ranks : List ℕ) (rule : Rule) (t : ℕ) → rule.body.items ≡ t ∷ [] → IsDerived ranks t → IsReady ranks rule
   ready_one ranks rule t e derived = λ i b listed. subst (λ n. IsDerived ranks n) (one_at t i b (ap (λ l. slice_get l i) (sym e) ∙ listed)) derived
 
-  -- the heads of the rules are sorts
-  pub several_heads : (rules : List Rule) → AreSeveralRules d rules → (k : ℕ) (rule : Rule) → slice_get rules k ≡ Some rule → rule.head < length d.sorts
-  several_heads rules are k rule at =
-      elim (cases_order k (length d.sorts)) [
-        | inl e ↦ remaining (k - length d.sorts) (omega arith)
-        | inr (inl less) ↦ let is = are.counts k rule less at in omega (arith, is.0)
-        | inr (inr more) ↦ remaining (k - length d.sorts) (omega arith)
+  -- the heads of the rules are further sorts
+  pub several_heads : (first : ℕ) (rules : List Rule) → AreSeveralRules d first (length d.sorts) rules → AreHeadsWithin first (length d.sorts) rules
+  several_heads first rules are k rule at =
+      let one = are.only k rule at in
+      elim one.is [
+        | inl own_rule ↦ (subst (λ n. first ≤ n) (sym own_rule.0) one.from, subst (λ n. n < length d.sorts) (sym own_rule.0) one.below)
+        | inr (t, index, listed, is) ↦ (subst (λ n. first ≤ n) (sym is.0) one.from, subst (λ n. n < length d.sorts) (sym is.0) one.below)
       ]
-    where
-      remaining : (i : ℕ) → k ≡ length d.sorts + i → rule.head < length d.sorts
-      remaining i e =
-          let sel = slice_get-there d.sels i (omega (arith, are.long, slice_get_within rules k rule at)) in
-          let ctor = of_ctors i sel.0 sel.1 in
-          let sort = of_sorts sel.0.ctor.0 ctor.0 ctor.1 in
-          let is = are.fields i rule (ap (slice_get rules) (sym e) ∙ at) sel.0 ctor.0 sel.1 ctor.1 in
-          subst (λ n. n < length d.sorts) (sym is.0) (slice_get_within d.sorts ctor.0.sort.0 sort.0 sort.2)
 
-  pub several_from : (rules : List Rule) (ranks : List ℕ) → AreSeveralRules d rules → AreRanks rules ranks (length d.sorts) → AreSeveral d ranks
-  several_from rules ranks are made =
-      record { long = made.long; counted = counted; field = field; grounded = grounded }
-    where
-      counted : (s : ℕ) → HasOtherCount d s → IsDerived ranks s
-      counted s other =
-          let within : s < length d.sorts = slice_get_within d.sorts s other.sort other.of_sort in
-          let rule = slice_get-there rules s (omega (arith, are.long)) in
-          let is = are.counts s rule.0 within rule.1 in
-          let same : length (ctors_of d s) ≡ length other.sort.ctors = ap length (ctors_at s other.sort other.of_sort) in
-          elim (if_one (length (ctors_of d s)) s rule.0.body.items is.1) [
-            | inl (one, body) ↦ absurd (other.count (sym same ∙ one))
-            | inr (more, body) ↦ subst (λ n. IsDerived ranks n) is.0 (made.complete s rule.0 rule.1 (ready_none ranks rule.0 body))
-          ]
+  -- a rule that is stated is complete
+  by_rule : (Is : Rule → Type 0) (s : ℕ) (rules : List Rule) (ranks : List ℕ) → IsComplete rules ranks → (has : HasRule rules Is) → has.rule.head ≡ s → IsReady ranks has.rule → IsDerived ranks s
+  by_rule Is s rules ranks complete has head ready = subst (λ n. IsDerived ranks n) head (complete has.index has.rule has.stated ready)
 
-      field : (s t : ℕ) → DependsOn d s t → IsDerived ranks t → IsDerived ranks s
-      field s t step derived =
-          let id = step.field.id in
-          let selector = step.field.selector in
-          let rule = slice_get-there rules (length d.sorts + id.0) (omega (arith, are.long, slice_get_within d.sels id.0 selector step.field.declared)) in
-          let sel = own_sels step.id.0 step.field.index step.ctor id step.declared step.field.listed in
-          let same_sel : sel.0 ≡ selector = same_Some _ _ (sym sel.1 ∙ step.field.declared) in
-          let of_ctor : selector.ctor.0 ≡ step.id.0 = ap (λ (x : Selector). x.ctor.0) (sym same_sel) ∙ sel.2 in
-          let ctor = own s step.index step.sort step.id step.of_sort step.listed in
-          let same_ctor : ctor.0 ≡ step.ctor = same_Some _ _ (sym ctor.1 ∙ step.declared) in
-          let of_sort : step.ctor.sort.0 ≡ s = ap (λ (x : Constructor). x.sort.0) (sym same_ctor) ∙ ctor.2 in
-          let at_ctor : slice_get d.ctors selector.ctor.0 ≡ Some step.ctor = ap (slice_get d.ctors) of_ctor ∙ step.declared in
-          let is = are.fields id.0 rule.0 rule.1 selector step.ctor step.field.declared at_ctor in
-          let body : rule.0.body.items ≡ t ∷ [] = is.1 ∙ ap (λ n. n ∷ []) step.field.sorted in
-          subst (λ n. IsDerived ranks n) (is.0 ∙ of_sort) (made.complete (length d.sorts + id.0) rule.0 rule.1 (ready_one ranks rule.0 t body derived))
+  module _ (e : Declarations) (later : IsLater d e) (old : List ℕ) (before : AreSeveral e old) (rules : List Rule) (ranks : List ℕ) (are : AreSeveralRules d (length old) (length d.sorts) rules) (made : AreRanks rules old ranks (length d.sorts)) where
+    several_new : (s : ℕ) → IsDerived old s → IsDerived ranks s
+    several_new s derived = let e = made.stayed s (derived_within old s derived) in omega arith
 
-      grounded : (s : ℕ) → IsDerived ranks s → HasOtherCount d s ⊎ HasLower d ranks s
-      grounded s derived =
-          let g = made.grounded s derived in
-          elim (cases_order g.cause (length d.sorts)) [
-            | inl e ↦ of_field g (omega arith)
-            | inr (inl less) ↦ of_count g less
-            | inr (inr more) ↦ of_field g (omega arith)
-          ]
-        where
-          of_count : (g : IsGrounded rules ranks s) → g.cause < length d.sorts → HasOtherCount d s ⊎ HasLower d ranks s
-          of_count g less =
-              let is = are.counts g.cause g.rule less g.stated in
-              let same : g.cause ≡ s = sym is.0 ∙ g.head in
-              elim (if_one (length (ctors_of d g.cause)) g.cause g.rule.body.items is.1) [
-                | inl (one, body) ↦
-                    let l : get_or ranks g.cause 0 < get_or ranks s 0 = g.lower 0 g.cause (ap (λ l. slice_get l 0) body) in
-                    let e : get_or ranks g.cause 0 ≡ get_or ranks s 0 = ap (λ n. get_or ranks n 0) same in
-                    absurd (omega arith)
-                | inr (more, body) ↦
-                    let sort = slice_get-there d.sorts g.cause less in
-                    inl (record { sort = sort.0; of_sort = ap (slice_get d.sorts) (sym same) ∙ sort.1; count = λ e. more (ap length (ctors_at g.cause sort.0 sort.1) ∙ e) })
+    several_old : (s : ℕ) → s < length old → IsDerived ranks s → IsDerived old s
+    several_old s less derived = let e = made.stayed s less in omega arith
+
+    several_counted : (s : ℕ) → HasOtherCount d s → IsDerived ranks s
+    several_counted s other =
+        elim (cases_below s (length old)) [
+          | inl less ↦ several_new s (before.counted s (count_was d e later s (subst (λ n. s < n) before.long less) other))
+          | inr from ↦
+              let within : s < length d.sorts = slice_get_within d.sorts s other.sort other.of_sort in
+              let has = are.own s from within in
+              let same : length (ctors_of d s) ≡ length other.sort.ctors = ap length (ctors_at s other.sort other.of_sort) in
+              elim (if_one (length (ctors_of d s)) s has.rule.body.items has.is.1) [
+                | inl (one, body) ↦ absurd (other.count (sym same ∙ one))
+                | inr (more, body) ↦ by_rule (IsCountRule d s) s rules ranks made.complete has has.is.0 (ready_none ranks has.rule body)
               ]
+        ]
 
-          of_field : (g : IsGrounded rules ranks s) → length d.sorts ≤ g.cause → HasOtherCount d s ⊎ HasLower d ranks s
-          of_field g above =
-              by (g.cause - length d.sorts) (omega arith)
-            where
-              by : (i : ℕ) → g.cause ≡ length d.sorts + i → HasOtherCount d s ⊎ HasLower d ranks s
-              by i e =
-                  let stated : slice_get rules (length d.sorts + i) ≡ Some g.rule = ap (slice_get rules) (sym e) ∙ g.stated in
-                  let within : i < length d.sels = omega (arith, are.long, slice_get_within rules g.cause g.rule g.stated) in
-                  let sel = slice_get-there d.sels i within in
-                  let ctor = of_ctors i sel.0 sel.1 in
-                  let sort = of_sorts sel.0.ctor.0 ctor.0 ctor.1 in
-                  let is = are.fields i g.rule stated sel.0 ctor.0 sel.1 ctor.1 in
-                  let same : ctor.0.sort.0 ≡ s = sym is.0 ∙ g.head in
-                  let listed : slice_get g.rule.body.items 0 ≡ Some sel.0.sort.0 = ap (λ l. slice_get l 0) is.1 in
-                  inr (record {
-                    field = sel.0.sort.0;
-                    step = record {
-                      sort = sort.0;
-                      index = sort.1;
-                      id = record { 0 = sel.0.ctor.0 };
-                      ctor = ctor.0;
-                      of_sort = ap (slice_get d.sorts) (sym same) ∙ sort.2;
-                      listed = sort.3;
-                      declared = ctor.1;
-                      field = record { index = sel.0.place; id = record { 0 = i }; selector = sel.0; listed = ctor.2; declared = sel.1; sorted = refl };
-                    };
-                    derived = g.ready 0 sel.0.sort.0 listed;
-                    lower = g.lower 0 sel.0.sort.0 listed;
-                  })
+    several_field : (s t : ℕ) → DependsOn d s t → IsDerived ranks t → IsDerived ranks s
+    several_field s t step derived =
+        elim (cases_below s (length old)) [
+          | inl less ↦
+              let was = step_was d e later s t (subst (λ n. s < n) before.long less) step in
+              several_new s (before.field s t was.0 (several_old t (subst (λ n. t < n) (sym before.long) was.1) derived))
+          | inr from ↦
+              let within : s < length d.sorts = slice_get_within d.sorts s step.sort step.of_sort in
+              let listed = listed_step s t step in
+              let has = are.each s listed.0 t from within listed.1 in
+              by_rule (IsFieldRule s t) s rules ranks made.complete has has.is.0 (ready_one ranks has.rule t has.is.1 derived)
+        ]
+
+    several_grounded : (s : ℕ) → IsDerived ranks s → HasOtherCount d s ⊎ HasLower d ranks s
+    several_grounded s derived =
+        elim (cases_below s (length old)) [
+          | inl less ↦ elim (before.grounded s (several_old s less derived)) [
+            | inl other ↦ inl (count_stays d e later s other)
+            | inr has ↦
+                let of_field = made.stayed has.field (derived_within old has.field has.derived) in
+                let of_sort = made.stayed s less in
+                let lower = has.lower in
+                inr (record { field = has.field; step = step_stays d e later s has.field has.step; derived = several_new has.field has.derived; lower = omega arith })
+          ]
+          | inr from ↦ by (made.grounded s from derived)
+        ]
+      where
+        by : IsGrounded rules ranks s → HasOtherCount d s ⊎ HasLower d ranks s
+        by g =
+            let one = are.only g.cause g.rule g.stated in
+            elim one.is [
+              | inl count ↦
+                  let same : one.sort ≡ s = sym count.0 ∙ g.head in
+                  elim (if_one (length (ctors_of d one.sort)) one.sort g.rule.body.items count.1) [
+                    | inl (single, body) ↦
+                        let l : get_or ranks one.sort 0 < get_or ranks s 0 = g.lower 0 one.sort (ap (λ l. slice_get l 0) body) in
+                        let e : get_or ranks one.sort 0 ≡ get_or ranks s 0 = ap (λ n. get_or ranks n 0) same in
+                        absurd (omega arith)
+                    | inr (more, body) ↦
+                        let sort = slice_get-there d.sorts one.sort one.below in
+                        inl (record { sort = sort.0; of_sort = ap (slice_get d.sorts) (sym same) ∙ sort.1; count = λ e. more (ap length (ctors_at one.sort sort.0 sort.1) ∙ e) })
+                  ]
+              | inr (t, index, at, is) ↦
+                  let same : one.sort ≡ s = sym is.0 ∙ g.head in
+                  let first : slice_get g.rule.body.items 0 ≡ Some t = ap (λ l. slice_get l 0) is.1 in
+                  inr (record { field = t; step = subst (λ n. DependsOn d n t) same (step_listed one.sort index t one.below at); derived = g.ready 0 t first; lower = g.lower 0 t first })
+            ]
+
+    pub several_from : AreSeveral d ranks
+    several_from = record { long = made.long; counted = several_counted; field = several_field; grounded = several_grounded }
 
   -- ---- small sorts
 
-  pub small_from : (several : List ℕ) (rules : List Rule) (ranks : List ℕ) → AreSmallRules d several rules → AreRanks rules ranks (length d.sorts) → AreSmall d several ranks
-  small_from several rules ranks are made =
-      record { long = made.long; single = single; built = built; grounded = grounded }
-    where
-      -- what the body of a sort's rule may be
-      body_of : (k n : ℕ) (body : List ℕ) → body ≡ cond (nat_eq (get_or several k 0) 0) [] (cond (nat_eq n 0) (k ∷ []) (sort_fields d k)) → ((get_or several k 0 ≡ 0) × (body ≡ [])) ⊎ (((get_or several k 0 ≡ 0 → ⊥) × (n ≡ 0) × (body ≡ k ∷ [])) ⊎ ((get_or several k 0 ≡ 0 → ⊥) × (n ≡ 0 → ⊥) × (body ≡ sort_fields d k)))
-      body_of k n body e = by (nat_eq (get_or several k 0) 0) (nat_eq n 0) (Decides-eqb (get_or several k 0) 0) (Decides-eqb n 0) e
-        where
-          by : (a b : Bool) → Decides a (get_or several k 0 ≡ 0) → Decides b (n ≡ 0) → body ≡ cond a [] (cond b (k ∷ []) (sort_fields d k)) → ((get_or several k 0 ≡ 0) × (body ≡ [])) ⊎ (((get_or several k 0 ≡ 0 → ⊥) × (n ≡ 0) × (body ≡ k ∷ [])) ⊎ ((get_or several k 0 ≡ 0 → ⊥) × (n ≡ 0 → ⊥) × (body ≡ sort_fields d k)))
-          by true b at bt e = inl (at.0 refl, e)
-          by false true at bt e = inr (inl (λ h. true≢false (sym (at.1 h)), bt.0 refl, e))
-          by false false at bt e = inr (inr (λ h. true≢false (sym (at.1 h)), λ h. true≢false (sym (bt.1 h)), e))
+  pub small_heads : (several : List ℕ) (first : ℕ) (rules : List Rule) → AreSmallRules d several first rules → AreHeadsWithin first (length d.sorts) rules
+  small_heads several first rules are k rule at =
+      let is = are.each k rule at in
+      let within = slice_get_within rules k rule at in
+      (omega (arith, is.0), omega (arith, is.0, are.long))
 
-      single : (s : ℕ) → s < length d.sorts → (IsDerived several s → ⊥) → IsDerived ranks s
-      single s within none =
-          let rule = slice_get-there rules s (omega (arith, are.long)) in
-          let is = are.each s rule.0 rule.1 in
-          let zero_rank : get_or several s 0 ≡ 0 = elim (cases_order (get_or several s 0) 0) [ inl e ↦ e | inr (inl less) ↦ absurd (omega arith) | inr (inr more) ↦ absurd (none more) ] in
-          elim (body_of s (length (ctors_of d s)) rule.0.body.items is.1) [
-            | inl (z, body) ↦ subst (λ n. IsDerived ranks n) is.0 (made.complete s rule.0 rule.1 (ready_none ranks rule.0 body))
-            | inr (inl h) ↦ absurd (h.0 zero_rank)
-            | inr (inr h) ↦ absurd (h.0 zero_rank)
+  module _ (e : Declarations) (later : IsLater d e) (known several : List ℕ) (stayed : HaveStayed known several) (known_long : length known ≡ length e.sorts) (old : List ℕ) (before : AreSmall e known old) (rules : List Rule) (ranks : List ℕ) (are : AreSmallRules d several (length old) rules) (made : AreRanks rules old ranks (length d.sorts)) where
+    -- what the body of a sort's rule may be
+    body_of : (k n : ℕ) (body : List ℕ) → body ≡ cond (nat_eq (get_or several k 0) 0) [] (cond (nat_eq n 0) (k ∷ []) (sort_fields d k)) → ((get_or several k 0 ≡ 0) × (body ≡ [])) ⊎ (((get_or several k 0 ≡ 0 → ⊥) × (n ≡ 0) × (body ≡ k ∷ [])) ⊎ ((get_or several k 0 ≡ 0 → ⊥) × (n ≡ 0 → ⊥) × (body ≡ sort_fields d k)))
+    body_of k n body e = by (nat_eq (get_or several k 0) 0) (nat_eq n 0) (Decides-eqb (get_or several k 0) 0) (Decides-eqb n 0) e
+      where
+        by : (a b : Bool) → Decides a (get_or several k 0 ≡ 0) → Decides b (n ≡ 0) → body ≡ cond a [] (cond b (k ∷ []) (sort_fields d k)) → ((get_or several k 0 ≡ 0) × (body ≡ [])) ⊎ (((get_or several k 0 ≡ 0 → ⊥) × (n ≡ 0) × (body ≡ k ∷ [])) ⊎ ((get_or several k 0 ≡ 0 → ⊥) × (n ≡ 0 → ⊥) × (body ≡ sort_fields d k)))
+        by true b at bt e = inl (at.0 refl, e)
+        by false true at bt e = inr (inl (λ h. true≢false (sym (at.1 h)), bt.0 refl, e))
+        by false false at bt e = inr (inr (λ h. true≢false (sym (at.1 h)), λ h. true≢false (sym (bt.1 h)), e))
+
+    small_new : (s : ℕ) → IsDerived old s → IsDerived ranks s
+    small_new s derived = let e = made.stayed s (derived_within old s derived) in omega arith
+
+    small_old : (s : ℕ) → s < length old → IsDerived ranks s → IsDerived old s
+    small_old s less derived = let e = made.stayed s less in omega arith
+
+    in_known : (s : ℕ) → s < length old → s < length known
+    in_known s less = omega (arith, before.long, known_long)
+
+    -- the rule of a further sort
+    rule_of : (s : ℕ) → length old ≤ s → s < length d.sorts → HasRule rules (IsSmallRule d several s)
+    rule_of s from within =
+        let rule = slice_get-there rules (s - length old) (omega (arith, are.long)) in
+        let same : length old + (s - length old) ≡ s = omega arith in
+        record { rule = rule.0; index = s - length old; stated = rule.1; is = subst (λ n. IsSmallRule d several n rule.0) same (are.each (s - length old) rule.0 rule.1) }
+
+    small_single : (s : ℕ) → s < length d.sorts → (IsDerived several s → ⊥) → IsDerived ranks s
+    small_single s within none =
+        elim (cases_below s (length old)) [
+          | inl less ↦ small_new s (before.single s (subst (λ n. s < n) before.long less) (λ h. let e = stayed s (in_known s less) in none (omega arith)))
+          | inr from ↦
+              let has = rule_of s from within in
+              let zero_rank : get_or several s 0 ≡ 0 = zero_of (get_or several s 0) none in
+              elim (body_of s (length (ctors_of d s)) has.rule.body.items has.is.1) [
+                | inl (z, body) ↦ by_rule (IsSmallRule d several s) s rules ranks made.complete has has.is.0 (ready_none ranks has.rule body)
+                | inr (inl h) ↦ absurd (h.0 zero_rank)
+                | inr (inr h) ↦ absurd (h.0 zero_rank)
+              ]
+        ]
+
+    small_built : (s : ℕ) (sort : Sort) → slice_get d.sorts s ≡ Some sort → 0 < length sort.ctors → ((t : ℕ) → DependsOn d s t → IsDerived ranks t) → IsDerived ranks s
+    small_built s sort at some fields =
+        elim (cases_below s (length old)) [
+          | inl less ↦
+              let in_e : s < length e.sorts = subst (λ n. s < n) before.long less in
+              small_new s (before.built s sort (sort_was d e later s sort in_e at) some (λ t step.
+              let was = step_was d e later s t in_e (step_stays d e later s t step) in
+              small_old t (subst (λ n. t < n) (sym before.long) was.1) (fields t (step_stays d e later s t step))))
+          | inr from ↦
+              let within : s < length d.sorts = slice_get_within d.sorts s sort at in
+              let has = rule_of s from within in
+              let same : length (ctors_of d s) ≡ length sort.ctors = ap length (ctors_at s sort at) in
+              elim (body_of s (length (ctors_of d s)) has.rule.body.items has.is.1) [
+                | inl (z, body) ↦ by_rule (IsSmallRule d several s) s rules ranks made.complete has has.is.0 (ready_none ranks has.rule body)
+                | inr (inl h) ↦ let none : length (ctors_of d s) ≡ 0 = h.1 in absurd (omega arith)
+                | inr (inr h) ↦ by_rule (IsSmallRule d several s) s rules ranks made.complete has has.is.0 (λ i b listed. fields b (step_listed s i b within (ap (λ l. slice_get l i) (sym h.2) ∙ listed)))
+              ]
+        ]
+
+    small_grounded : (s : ℕ) → IsDerived ranks s → (IsDerived several s → ⊥) ⊎ IsBuiltLower d ranks s
+    small_grounded s derived =
+        elim (cases_below s (length old)) [
+          | inl less ↦ elim (before.grounded s (small_old s less derived)) [
+            | inl none ↦ inl (λ h. let e = stayed s (in_known s less) in none (omega arith))
+            | inr built ↦
+                let in_e : s < length e.sorts = subst (λ n. s < n) before.long less in
+                let of_sort = made.stayed s less in
+                inr (record {
+                  sort = built.sort;
+                  of_sort = sort_stays d e later s built.sort built.of_sort;
+                  some = built.some;
+                  derived = λ t step. small_new t (built.derived t (step_was d e later s t in_e step).0);
+                  lower = λ t step.
+                      let was = step_was d e later s t in_e step in
+                      let of_field = made.stayed t (subst (λ n. t < n) (sym before.long) was.1) in
+                      let lower = built.lower t was.0 in
+                      omega arith;
+                })
           ]
+          | inr from ↦ by (made.grounded s from derived) (subst (λ n. s < n) made.long (derived_within ranks s derived))
+        ]
+      where
+        by : IsGrounded rules ranks s → s < length d.sorts → (IsDerived several s → ⊥) ⊎ IsBuiltLower d ranks s
+        by g within = of_body (body_of s (length (ctors_of d s)) g.rule.body.items is.1)
+          where
+            cause : ℕ
+            cause = length old + g.cause
 
-      built : (s : ℕ) (sort : Sort) → slice_get d.sorts s ≡ Some sort → 0 < length sort.ctors → ((t : ℕ) → DependsOn d s t → IsDerived ranks t) → IsDerived ranks s
-      built s sort at some fields =
-          let within : s < length d.sorts = slice_get_within d.sorts s sort at in
-          let rule = slice_get-there rules s (omega (arith, are.long)) in
-          let is = are.each s rule.0 rule.1 in
-          let same : length (ctors_of d s) ≡ length sort.ctors = ap length (ctors_at s sort at) in
-          elim (body_of s (length (ctors_of d s)) rule.0.body.items is.1) [
-            | inl (z, body) ↦ subst (λ n. IsDerived ranks n) is.0 (made.complete s rule.0 rule.1 (ready_none ranks rule.0 body))
-            | inr (inl h) ↦ let none : length (ctors_of d s) ≡ 0 = h.1 in absurd (omega arith)
-            | inr (inr h) ↦ subst (λ n. IsDerived ranks n) is.0 (made.complete s rule.0 rule.1 (λ i b listed. fields b (step_listed s i b within (ap (λ l. slice_get l i) (sym h.2) ∙ listed))))
-          ]
+            same : cause ≡ s
+            same = sym (are.each g.cause g.rule g.stated).0 ∙ g.head
 
-      grounded : (s : ℕ) → IsDerived ranks s → (IsDerived several s → ⊥) ⊎ IsBuiltLower d ranks s
-      grounded s derived =
-          let g = made.grounded s derived in
-          let is = are.each g.cause g.rule g.stated in
-          let same : g.cause ≡ s = sym is.0 ∙ g.head in
-          let within : s < length d.sorts = subst (λ n. s < n) made.long (derived_within ranks s derived) in
-          by g same is.1 within (body_of g.cause (length (ctors_of d g.cause)) g.rule.body.items is.1)
-        where
-          by : (g : IsGrounded rules ranks s) → g.cause ≡ s → g.rule.body.items ≡ cond (nat_eq (get_or several g.cause 0) 0) [] (cond (nat_eq (length (ctors_of d g.cause)) 0) (g.cause ∷ []) (sort_fields d g.cause)) → s < length d.sorts
-              → ((get_or several g.cause 0 ≡ 0) × (g.rule.body.items ≡ [])) ⊎ (((get_or several g.cause 0 ≡ 0 → ⊥) × (length (ctors_of d g.cause) ≡ 0) × (g.rule.body.items ≡ g.cause ∷ [])) ⊎ ((get_or several g.cause 0 ≡ 0 → ⊥) × (length (ctors_of d g.cause) ≡ 0 → ⊥) × (g.rule.body.items ≡ sort_fields d g.cause)))
-              → (IsDerived several s → ⊥) ⊎ IsBuiltLower d ranks s
-          by g same is within (inl (z, body)) =
-              let e : get_or several s 0 ≡ 0 = ap (λ n. get_or several n 0) (sym same) ∙ z in
-              inl (λ h. omega arith)
-          by g same is within (inr (inl h)) =
-              let l : get_or ranks g.cause 0 < get_or ranks s 0 = g.lower 0 g.cause (ap (λ l. slice_get l 0) h.2) in
-              let e : get_or ranks g.cause 0 ≡ get_or ranks s 0 = ap (λ n. get_or ranks n 0) same in
-              absurd (omega arith)
-          by g same is within (inr (inr h)) =
-              let sort = slice_get-there d.sorts s within in
-              let count : length (ctors_of d g.cause) ≡ length sort.0.ctors = ap (λ n. length (ctors_of d n)) same ∙ ap length (ctors_at s sort.0 sort.1) in
-              let body : g.rule.body.items ≡ sort_fields d s = h.2 ∙ ap (sort_fields d) same in
-              let some : 0 < length sort.0.ctors = elim (cases_order 0 (length sort.0.ctors)) [ inl e ↦ absurd (h.1 (count ∙ sym e)) | inr (inl less) ↦ less | inr (inr more) ↦ absurd (omega arith) ] in
-              inr (record {
-                sort = sort.0;
-                of_sort = sort.1;
-                some = some;
-                derived = λ t step. let at = listed_step s t step in g.ready at.0 t (ap (λ l. slice_get l at.0) body ∙ at.1);
-                lower = λ t step. let at = listed_step s t step in g.lower at.0 t (ap (λ l. slice_get l at.0) body ∙ at.1);
-              })
+            is : IsSmallRule d several s g.rule
+            is = subst (λ n. IsSmallRule d several n g.rule) same (are.each g.cause g.rule g.stated)
 
--- the rules of all sorts with those of all selectors after them
-pub several_made : (d : Declarations) (counts rules : List Rule) → length counts ≡ length d.sorts → ((k : ℕ) (rule : Rule) → slice_get counts k ≡ Some rule → IsCountRule d k rule) → length rules ≡ length counts + length d.sels → ((k : ℕ) (rule : Rule) → k < length counts → slice_get rules k ≡ Some rule → slice_get counts k ≡ Some rule) → ((i : ℕ) (rule : Rule) → slice_get rules (length counts + i) ≡ Some rule → IsFieldRule d i rule) → AreSeveralRules d rules
-several_made d counts rules long each all stored fields =
-    record {
-      long = omega arith;
-      counts = λ k rule within at. each k rule (stored k rule (omega arith) at);
-      fields = λ i rule at. fields i rule (ap (λ n. slice_get rules (n + i)) long ∙ at);
-    }
+            of_body : ((get_or several s 0 ≡ 0) × (g.rule.body.items ≡ [])) ⊎ (((get_or several s 0 ≡ 0 → ⊥) × (length (ctors_of d s) ≡ 0) × (g.rule.body.items ≡ s ∷ [])) ⊎ ((get_or several s 0 ≡ 0 → ⊥) × (length (ctors_of d s) ≡ 0 → ⊥) × (g.rule.body.items ≡ sort_fields d s))) → (IsDerived several s → ⊥) ⊎ IsBuiltLower d ranks s
+            of_body (inl (z, body)) = inl (λ h. omega arith)
+            of_body (inr (inl h)) =
+                let l : get_or ranks s 0 < get_or ranks s 0 = g.lower 0 s (ap (λ l. slice_get l 0) h.2) in
+                absurd (omega arith)
+            of_body (inr (inr h)) =
+                let sort = slice_get-there d.sorts s within in
+                let count : length (ctors_of d s) ≡ length sort.0.ctors = ap length (ctors_at s sort.0 sort.1) in
+                let some : 0 < length sort.0.ctors = elim (cases_order 0 (length sort.0.ctors)) [ inl e ↦ absurd (h.1 (count ∙ sym e)) | inr (inl less) ↦ less | inr (inr more) ↦ absurd (omega arith) ] in
+                inr (record {
+                  sort = sort.0;
+                  of_sort = sort.1;
+                  some = some;
+                  derived = λ t step. let at = listed_step s t step in g.ready at.0 t (ap (λ l. slice_get l at.0) h.2 ∙ at.1);
+                  lower = λ t step. let at = listed_step s t step in g.lower at.0 t (ap (λ l. slice_get l at.0) h.2 ∙ at.1);
+                })
+
+    pub small_from : AreSmall d several ranks
+    small_from = record { long = made.long; single = small_single; built = small_built; grounded = small_grounded }

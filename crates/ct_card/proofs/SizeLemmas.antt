@@ -18,7 +18,7 @@ use Rattle.ct_card.specs.declared.size.Size.TheVariants.{One, Finite, Infinite}
 use Rattle.ct_card.specs.Dependence.{DependsOn, IsWay, DependsInSteps}
 use Rattle.ct_card.specs.Cardinality.{IsSingleSet, IsSingle, IsInfiniteSet, IsInfinite, HasSize}
 use Rattle.ct_card.specs.Rules.{IsDerived}
-use Rattle.ct_card.specs.Sizes.{AreSizesBy}
+use Rattle.ct_card.specs.Sizes.{IsSizeBy}
 use Rattle.ct_card.specs.Ranked.{AreSeveral, IsBuiltLower, AreSmall}
 
 -- ---- small facts
@@ -341,21 +341,16 @@ module _ (d : Declarations) (consistent : IsConsistent d) (own : HaveOwnConstruc
       pub infinite_large : (s : ℕ) → s < length d.sorts → (IsDerived small s → ⊥) → IsInfinite d s
       infinite_large s within none set closed = in_set set closed s within none
 
-      -- sizes by ranks are the sizes
-      pub sizes_from : (sizes : List Size) → AreSizesBy several small sizes → (length sizes ≡ length d.sorts) × ((s : ℕ) (size : Size) → slice_get sizes s ≡ Some size → HasSize d s size)
-      sizes_from sizes by_ranks =
-          (by_ranks.long ∙ ranked.long, λ s size at. each s size at (slice_get_within sizes s size at))
+      -- the size by ranks is the size
+      pub size_from : (s : ℕ) (size : Size) → s < length d.sorts → IsSizeBy several small s size → HasSize d s size
+      size_from s size within is =
+          subst (λ (z : Size). HasSize d s z) (sym is)
+          (by (nat_eq (get_or several s 0) 0) (nat_eq (get_or small s 0) 0) (Decides-eqb (get_or several s 0) 0) (Decides-eqb (get_or small s 0) 0) within)
         where
-          each : (s : ℕ) (size : Size) → slice_get sizes s ≡ Some size → s < length sizes → HasSize d s size
-          each s size at inside =
-              let within : s < length d.sorts = omega (arith, by_ranks.long, ranked.long) in
-              subst (λ (z : Size). HasSize d s z) (sym (by_ranks.each s size at))
-              (by (nat_eq (get_or several s 0) 0) (nat_eq (get_or small s 0) 0) (Decides-eqb (get_or several s 0) 0) (Decides-eqb (get_or small s 0) 0) within)
-            where
-              by : (a b : Bool) → Decides a (get_or several s 0 ≡ 0) → Decides b (get_or small s 0 ≡ 0) → s < length d.sorts → HasSize d s (cond a One (cond b Infinite Finite))
-              by true b at bt within = single_unranked s within (λ h. let z : get_or several s 0 ≡ 0 = at.0 refl in omega arith)
-              by false true at bt within = infinite_large s within (λ h. let z : get_or small s 0 ≡ 0 = bt.0 refl in omega arith)
-              by false false at bt within = (
-                not_single_ranked s (elim (derived_or several s) [ inl h ↦ h | inr none ↦ absurd (true≢false (sym (at.1 (zero_of (get_or several s 0) none)))) ]),
-                finite_small s (elim (derived_or small s) [ inl h ↦ h | inr none ↦ absurd (true≢false (sym (bt.1 (zero_of (get_or small s 0) none)))) ]),
-              )
+          by : (a b : Bool) → Decides a (get_or several s 0 ≡ 0) → Decides b (get_or small s 0 ≡ 0) → s < length d.sorts → HasSize d s (cond a One (cond b Infinite Finite))
+          by true b at bt within = single_unranked s within (λ h. let z : get_or several s 0 ≡ 0 = at.0 refl in omega arith)
+          by false true at bt within = infinite_large s within (λ h. let z : get_or small s 0 ≡ 0 = bt.0 refl in omega arith)
+          by false false at bt within = (
+            not_single_ranked s (elim (derived_or several s) [ inl h ↦ h | inr none ↦ absurd (true≢false (sym (at.1 (zero_of (get_or several s 0) none)))) ]),
+            finite_small s (elim (derived_or small s) [ inl h ↦ h | inr none ↦ absurd (true≢false (sym (bt.1 (zero_of (get_or small s 0) none)))) ]),
+          )

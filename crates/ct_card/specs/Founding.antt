@@ -3,10 +3,11 @@ use Rattle.std.specs.Prelude.{◌≡◌, ℕ, ◌+◌, ◌<◌, Bool, true, fals
 use Rattle.ct_sorts.specs.declared.ids.CtorId.{CtorId}
 use Rattle.ct_sorts.specs.declared.ids.Kind.{Kind}
 use Rattle.ct_sorts.specs.declared.ids.Kind.TheVariants.{Bool as BoolKind, Free, Data, Codata}
-use Rattle.ct_sorts.specs.Declarations.{Declarations, Sort, Constructor}
+use Rattle.ct_sorts.specs.Declarations.{Declarations, Sort}
 use Rattle.ct_card.specs.declared.chain.Rule.{Rule}
 use Rattle.ct_card.specs.Rules.{IsOrder}
-use Rattle.ct_card.specs.Fields.{ctor_fields}
+use Rattle.ct_card.specs.Fields.{ctor_fields, ctors_of}
+use Rattle.ct_card.specs.Ruled.{AreSortRules}
 
 -- it is the kind of datatypes
 abbrev pub is_data : Kind → Bool
@@ -20,14 +21,12 @@ abbrev pub IsKindRule : Declarations → ℕ → Rule → Type 0
 IsKindRule d k rule = (sort : Sort) → slice_get d.sorts k ≡ Some sort → (rule.head ≡ k) × (rule.body.items ≡ (if is_data sort.kind then k ∷ [] else []))
 
 -- one rule for each constructor: its sort is well founded where the sorts of its fields are
-abbrev pub IsCtorRule : Declarations → ℕ → Rule → Type 0
-IsCtorRule d i rule = (ctor : Constructor) → slice_get d.ctors i ≡ Some ctor → (rule.head ≡ ctor.sort.0) × (rule.body.items ≡ ctor_fields d (record { 0 = i }))
+abbrev pub IsCtorRule : Declarations → ℕ → CtorId → Rule → Type 0
+IsCtorRule d s c rule = (rule.head ≡ s) × (rule.body.items ≡ ctor_fields d c)
 
--- the rules of all sorts, and after them those of all constructors
-pub record AreFoundingRules (d : Declarations) (rules : List Rule) : Type 0 where
-  pub long : length rules ≡ length d.sorts + length d.ctors
-  pub kinds : (k : ℕ) (rule : Rule) → k < length d.sorts → slice_get rules k ≡ Some rule → IsKindRule d k rule
-  pub ctors : (i : ℕ) (rule : Rule) → slice_get rules (length d.sorts + i) ≡ Some rule → IsCtorRule d i rule
+-- the rules of sorts and of their constructors
+abbrev pub AreFoundingRules : Declarations → ℕ → ℕ → List Rule → Type 0
+AreFoundingRules d first bound rules = AreSortRules (IsKindRule d) (ctors_of d) (IsCtorRule d) first bound rules
 
 -- the constructor's fields have lower ranks than the sort
 abbrev pub HasLowerFields : Declarations → List ℕ → ℕ → CtorId → Type 0

@@ -9,6 +9,7 @@ pub mod Founding
 pub mod Defaults
 pub mod Departures
 pub mod Sizes
+pub mod Extended
 pub mod Paths
 pub mod Built
 pub mod Signs

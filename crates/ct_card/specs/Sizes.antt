@@ -1,5 +1,5 @@
 -- The sizes of all sorts of declarations, and how their default values are built.
-use Rattle.std.specs.Prelude.{◌≡◌, ℕ, List, length, Some, slice_get, get_or, if◌then◌else◌, ◌==◌}
+use Rattle.std.specs.Prelude.{◌≡◌, ℕ, List, [], length, Some, slice_get, get_or, if◌then◌else◌, ◌==◌}
 use Rattle.ct_sorts.specs.declared.ids.CtorId.{CtorId}
 use Rattle.ct_sorts.specs.declared.ids.SortId.{SortId}
 use Rattle.ct_sorts.specs.Declarations.{Declarations}
@@ -8,7 +8,7 @@ use Rattle.ct_card.specs.declared.size.Size.TheVariants.{One, Finite, Infinite}
 use Rattle.ct_card.specs.Cardinality.{HasSize}
 use Rattle.ct_card.specs.declared.departure.Departure.{Departure}
 use Rattle.ct_card.specs.declared.departure.Layer.{Layer}
-use Rattle.ct_card.specs.Ranked.{AreSeveral}
+use Rattle.ct_card.specs.Ranked.{AreSeveral, AreSmall}
 use Rattle.ct_card.specs.Rules.{IsOrder}
 use Rattle.ct_values.specs.declared.node.NodeId.{NodeId}
 use Rattle.ct_values.specs.Graph.{Nodes}
@@ -18,7 +18,8 @@ use Rattle.ct_card.specs.Departures.{AreSeconds, AreLayers}
 
 -- for each sort: its size, its rank among the sorts of several values (0 for a single one), its rank among the sorts as they
 -- are well founded, the constructor of its default value, how its second value departs from that, and the layer by which
--- its values are built where it is infinite; and the sorts in the order of the one and of the other ranks
+-- its values are built where it is infinite; the sorts in the order of the one and of the other ranks; and the ranks of the sorts
+-- that are not infinite, with these in their order
 pub record Table : Type 0 where
   pub sizes : List Size
   pub several : List ℕ
@@ -28,6 +29,12 @@ pub record Table : Type 0 where
   pub ctors : List CtorId
   pub seconds : List Departure
   pub layers : List Layer
+  pub small : List ℕ
+  pub settled : List ℕ
+
+-- the table of no sorts
+abbrev pub no_sizes : Table
+no_sizes = record { sizes = []; several = []; queue = []; ranks = []; order = []; ctors = []; seconds = []; layers = []; small = []; settled = [] }
 
 -- the table is of these declarations: each size is that of the sort
 pub record AreSizes (d : Declarations) (table : Table) : Type 0 where
@@ -38,15 +45,16 @@ pub record AreSizes (d : Declarations) (table : Table) : Type 0 where
   pub plan : IsPlan d table.ranks table.order table.ctors
   pub departures : AreSeconds d table.several table.ctors table.seconds
   pub layered : AreLayers d table.several table.layers
+  pub small : AreSmall d table.several table.small
+  pub settled : IsOrder table.small table.settled
 
 -- the size of a sort by its ranks among the sorts of several values and among the small ones
 abbrev pub size_by : ℕ → ℕ → Size
 size_by several small = if several == 0 then One else (if small == 0 then Infinite else Finite)
 
--- each size is that by the ranks at its index
-pub record AreSizesBy (several small : List ℕ) (sizes : List Size) : Type 0 where
-  pub long : length sizes ≡ length several
-  pub each : (s : ℕ) (size : Size) → slice_get sizes s ≡ Some size → size ≡ size_by (get_or several s 0) (get_or small s 0)
+-- the size is that by the ranks of the sort
+abbrev pub IsSizeBy : List ℕ → List ℕ → ℕ → Size → Type 0
+IsSizeBy several small s size = size ≡ size_by (get_or several s 0) (get_or small s 0)
 
 -- the node is that of the sort's default value, and those of all sorts stand in the graph
 pub record IsDefaultValue (d : Declarations) (table : Table) (g : Nodes) (s : ℕ) (n : NodeId) : Type 0 where

@@ -1,4 +1,4 @@
-//! Nodes over default values, and nodes that depart from them.
+//! Nodes over default values, and nodes that differ from them.
 ghost use Rattle.std.specs.Prelude.{◌≡◌, ℕ, ◌+◌, ◌<◌, ◌^◌, ◌++◌, [], ◌∷◌, false, Some, length, get_or, slice_get, IfOk, OnErr};
 ghost use Rattle.ct_sorts.specs.Declarations.{IsConstructor};
 ghost use Rattle.ct_values.specs.declared.node.Node.{Node};

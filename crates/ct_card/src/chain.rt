@@ -1,4 +1,4 @@
-//! Rules over numbers, and all that they derive, by forward chaining (Dowling and Gallier 1984).
+//! Rules over numbers, and everything that they derive, by forward chaining (Dowling and Gallier 1984).
 //!
 //! A rule fires when all of its body is derived. `chain` counts for each rule how many of its body
 //! are left, so that it is looked at once: the time is linear in the rules. That nothing more can
@@ -6,8 +6,8 @@
 //! than one.
 ghost use Rattle.std.specs.Prelude.{◌≡◌, ℕ, ◌<◌, ◌≤◌, ◌↔◌, List, Some, length, get_or, slice_get, ◌||◌, All, OnOk, IfOk, IsTrue};
 ghost use Rattle.std.specs.Bool.{OnTrue, OnFalse};
-ghost use Rattle.ct_card.specs.Rules.{IsDerived, IsReady, IsComplete, AreGrounded, AreRanks, IsOrder};
-ghost use Rattle.ct_card.specs.Derived.{IsUnderWay, AreHeadsBelow, missing_ranks};
+ghost use Rattle.ct_card.specs.Rules.{IsDerived, IsReady, IsComplete, AreRanks, IsOrder};
+ghost use Rattle.ct_card.specs.Derived.{IsUnderWay, AreHeadsBelow, AreHeadsWithin, missing_ranks};
 
 use crate::error::CardError;
 use std::alloc::Global;
@@ -19,44 +19,47 @@ pub(crate) struct Rule {
     pub(crate) body: Vec<usize>,
 }
 
-/// What rules derive.
-#[derive(Debug, Drop)]
-pub(crate) struct Derived {
-    /// For each number its rank: 0 for what is not derived, and else more than those of the body by
-    /// which it was derived.
-    pub(crate) ranks: Vec<usize>,
-    /// The derived numbers in the order of their ranks, which count from 1.
-    pub(crate) order: Vec<usize>,
+/// All that the rules derive of further numbers, which are below the count. The ranks that are there stay. A number has rank 0
+/// where it is not derived, and else a greater one than those of the body by which it was derived; the order has the derived
+/// numbers by their ranks, which count from 1. Where the answer is an error, some may have been derived.
+pub(crate) fn derive(
+    alloc: Global,
+    count: usize,
+    rules: &[Rule],
+    ranks: &mut Vec<usize>,
+    order: &mut Vec<usize>,
+) -> Result<(), CardError>
+    requires heads { AreHeadsWithin (length ranks.old.items) count rules.now }
+    requires order { IsOrder ranks.old.items order.old.items }
+    requires few { length ranks.old.items ≤ count }
+    ensures ranks { OnOk result (AreRanks rules.now ranks.old.items ranks.new.items count) }
+    ensures order { OnOk result (IsOrder ranks.new.items order.new.items) }
+{
+    let first = ranks.len();
+    push_zeros(count, ranks)?;
+    chain(alloc, first, rules, ranks, order)?;
+    while round(rules, ranks, order)? {}
+    Ok(())
 }
 
-/// All that the rules derive from nothing, of numbers below the count.
-pub(crate) fn derive(alloc: Global, count: usize, rules: &[Rule]) -> Result<Derived, CardError>
-    requires heads { AreHeadsBelow count rules.now }
-    ensures ranks { IfOk result (λ all. AreRanks rules.now all.ranks.items count) }
-    ensures order { IfOk result (λ all. IsOrder all.ranks.items all.order.items) }
+// No ranks for further numbers, until there are as many as the count.
+fn push_zeros(count: usize, ranks: &mut Vec<usize>) -> Result<(), CardError>
+    requires few { length ranks.old.items ≤ count }
+    ensures long { OnOk result (length ranks.new.items ≡ count) }
+    ensures same { OnOk result ((n : ℕ) → get_or ranks.new.items n 0 ≡ get_or ranks.old.items n 0) }
 {
-    let mut ranks = vec![in alloc; 0; count]?;
-    let mut order = Vec::new(alloc);
-    chain(alloc, rules, &mut ranks, &mut order)?;
-    while round(rules, &mut ranks, &mut order)? {}
-    Ok(Derived { ranks, order })
-}
-
-/// The ranks of all that the rules derive.
-pub(crate) fn ranks_of(alloc: Global, count: usize, rules: &[Rule]) -> Result<Vec<usize>, CardError>
-    requires heads { AreHeadsBelow count rules.now }
-    ensures ranks { IfOk result (λ ranks. AreRanks rules.now ranks.items count) }
-{
-    let all = derive(alloc, count, rules)?;
-    Ok(all.ranks)
+    while ranks.len() < count {
+        ranks.push(0)?;
+    }
+    Ok(())
 }
 
 // One round over all rules. Whether one fired.
 fn round(rules: &[Rule], ranks: &mut Vec<usize>, order: &mut Vec<usize>) -> Result<bool, CardError>
     requires heads { AreHeadsBelow (length ranks.old.items) rules.now }
-    requires under_way { IsUnderWay rules.now ranks.old.items order.old.items }
     ensures long { OnOk result (length ranks.new.items ≡ length ranks.old.items) }
-    ensures under_way { OnOk result (IsUnderWay rules.now ranks.new.items order.new.items) }
+    ensures under_way { OnOk result ((old : List ℕ) → IsUnderWay old rules.now ranks.old.items order.old.items
+        → IsUnderWay old rules.now ranks.new.items order.new.items) }
     ensures fewer { IfOk result (λ fired. IsTrue fired → missing_ranks ranks.new.items < missing_ranks ranks.old.items) }
     ensures stable { IfOk result (λ fired. OnFalse fired (IsComplete rules.now ranks.new.items)) }
 {
@@ -79,9 +82,9 @@ fn either(first: bool, second: bool) -> bool
 fn fire(rule: &Rule, ranks: &mut Vec<usize>, order: &mut Vec<usize>) -> Result<bool, CardError>
     requires head { rule.now.head < length ranks.old.items }
     ensures long { OnOk result (length ranks.new.items ≡ length ranks.old.items) }
-    ensures under_way { OnOk result ((rules : List Rule) (k : ℕ) → slice_get rules k ≡ Some rule.now
-        → IsUnderWay rules ranks.old.items order.old.items
-        → IsUnderWay rules ranks.new.items order.new.items) }
+    ensures under_way { OnOk result ((old : List ℕ) (rules : List Rule) (k : ℕ) → slice_get rules k ≡ Some rule.now
+        → IsUnderWay old rules ranks.old.items order.old.items
+        → IsUnderWay old rules ranks.new.items order.new.items) }
     ensures fewer { IfOk result (λ fired. IsTrue fired → missing_ranks ranks.new.items < missing_ranks ranks.old.items) }
     ensures same { IfOk result (λ fired. OnFalse fired ((ranks.new.items ≡ ranks.old.items) × (order.new.items ≡ order.old.items))) }
     ensures stable { IfOk result (λ fired. OnFalse fired (IsReady ranks.old.items rule.now → IsDerived ranks.old.items rule.now.head)) }
@@ -113,28 +116,35 @@ fn is_derived(ranks: &[usize], n: usize) -> bool
     n < ranks.len() && ranks[n] != 0
 }
 
-// Fires rules one after the other, each when the last of its body has been derived. All of this is
+// Fires rules one after the other, each when the last of its body from the first number on has been derived. All of this is
 // for speed: what is derived is derived by `fire`.
 fn chain(
     alloc: Global,
+    first: usize,
     rules: &[Rule],
     ranks: &mut Vec<usize>,
     order: &mut Vec<usize>,
 ) -> Result<(), CardError>
     requires heads { AreHeadsBelow (length ranks.old.items) rules.now }
-    requires under_way { IsUnderWay rules.now ranks.old.items order.old.items }
     ensures long { OnOk result (length ranks.new.items ≡ length ranks.old.items) }
-    ensures under_way { OnOk result (IsUnderWay rules.now ranks.new.items order.new.items) }
+    ensures under_way { OnOk result ((old : List ℕ) → IsUnderWay old rules.now ranks.old.items order.old.items
+        → IsUnderWay old rules.now ranks.new.items order.new.items) }
 {
-    let count = ranks.len();
-    let users = users_of(alloc, count, rules)?;
-    let mut left = lengths_of(alloc, rules)?;
+    let users = users_of(alloc, first, ranks.len(), rules)?;
+    let mut left = counts_of(alloc, first, rules)?;
+    let start = order.len();
     round(rules, ranks, order)?;
-    for i in 0..count {
+    for i in start..ranks.len() {
         if i >= order.len() {
             break;
         }
-        spread(rules, row_of(&users, order[i]), &mut left, ranks, order)?;
+        spread(
+            rules,
+            row_of(&users, first, order[i]),
+            &mut left,
+            ranks,
+            order,
+        )?;
     }
     Ok(())
 }
@@ -149,15 +159,33 @@ fn spread(
     order: &mut Vec<usize>,
 ) -> Result<(), CardError>
     requires heads { AreHeadsBelow (length ranks.old.items) rules.now }
-    requires under_way { IsUnderWay rules.now ranks.old.items order.old.items }
     ensures long { OnOk result (length ranks.new.items ≡ length ranks.old.items) }
-    ensures under_way { OnOk result (IsUnderWay rules.now ranks.new.items order.new.items) }
+    ensures under_way { OnOk result ((old : List ℕ) → IsUnderWay old rules.now ranks.old.items order.old.items
+        → IsUnderWay old rules.now ranks.new.items order.new.items) }
 {
     for k in users {
-        if is_last(left, *k) && *k < rules.len() {
-            fire(&rules[*k], ranks, order)?;
-        }
+        fire_last(rules, *k, left, ranks, order)?;
     }
+    Ok(())
+}
+
+// One less is left of the body of this rule: it fires if that was the last.
+fn fire_last(
+    rules: &[Rule],
+    k: usize,
+    left: &mut Vec<usize>,
+    ranks: &mut Vec<usize>,
+    order: &mut Vec<usize>,
+) -> Result<(), CardError>
+    requires heads { AreHeadsBelow (length ranks.old.items) rules.now }
+    ensures long { OnOk result (length ranks.new.items ≡ length ranks.old.items) }
+    ensures under_way { OnOk result ((old : List ℕ) → IsUnderWay old rules.now ranks.old.items order.old.items
+        → IsUnderWay old rules.now ranks.new.items order.new.items) }
+{
+    if !is_last(left, k) || k >= rules.len() {
+        return Ok(());
+    }
+    fire(&rules[k], ranks, order)?;
     Ok(())
 }
 
@@ -170,40 +198,61 @@ fn is_last(left: &mut Vec<usize>, k: usize) -> bool {
     left[k] == 0
 }
 
-// The row of this number.
-fn row_of(rows: &[Vec<usize>], n: usize) -> &[usize] {
-    if n < rows.len() {
-        return rows[n].as_slice();
+// The row of this number, where the rows begin with that of the first number.
+fn row_of(rows: &[Vec<usize>], first: usize, n: usize) -> &[usize] {
+    if n >= first && n - first < rows.len() {
+        return rows[n - first].as_slice();
     }
     &[]
 }
 
-// The lengths of the bodies.
-fn lengths_of(alloc: Global, rules: &[Rule]) -> Result<Vec<usize>, CardError> {
-    let mut lengths = Vec::with_capacity(alloc, rules.len())?;
+// How many numbers from the first on the bodies have.
+fn counts_of(alloc: Global, first: usize, rules: &[Rule]) -> Result<Vec<usize>, CardError> {
+    let mut counts = Vec::with_capacity(alloc, rules.len())?;
     for rule in rules {
-        lengths.push(rule.body.len())?;
+        counts.push(count_from(first, rule.body.as_slice()))?;
     }
-    Ok(lengths)
+    Ok(counts)
 }
 
-// For each number below the count the rules in whose bodies it stands, as often as it stands there.
-fn users_of(alloc: Global, count: usize, rules: &[Rule]) -> Result<Vec<Vec<usize>>, CardError> {
-    let mut users = Vec::with_capacity(alloc, count)?;
-    for _ in 0..count {
+// How many of these are not below the first number.
+fn count_from(first: usize, numbers: &[usize]) -> usize {
+    let mut count: usize = 0;
+    for n in numbers {
+        if *n >= first {
+            count = count.wrapping_add(1);
+        }
+    }
+    count
+}
+
+// For each number from the first to below the count the rules in whose bodies it stands, as often as it stands there.
+fn users_of(
+    alloc: Global,
+    first: usize,
+    count: usize,
+    rules: &[Rule],
+) -> Result<Vec<Vec<usize>>, CardError> {
+    let mut users = Vec::new(alloc);
+    for _ in first..count {
         users.push(Vec::new(alloc))?;
     }
     for k in 0..rules.len() {
-        push_user(&mut users, &rules[k], k)?;
+        push_user(&mut users, first, &rules[k], k)?;
     }
     Ok(users)
 }
 
 // Puts the number of the rule into the rows of its body.
-fn push_user(users: &mut Vec<Vec<usize>>, rule: &Rule, k: usize) -> Result<(), CardError> {
+fn push_user(
+    users: &mut Vec<Vec<usize>>,
+    first: usize,
+    rule: &Rule,
+    k: usize,
+) -> Result<(), CardError> {
     for b in rule.body.as_slice() {
-        if *b < users.len() {
-            users[*b].push(k)?;
+        if *b >= first && *b - first < users.len() {
+            users[*b - first].push(k)?;
         }
     }
     Ok(())

@@ -1,36 +1,40 @@
 //! The constructors of default values.
-ghost use Rattle.std.specs.Prelude.{◌≡◌, ℕ, ◌<◌, ◌↔◌, Some, length, get_or, slice_get, IfOk, IsTrue};
-ghost use Rattle.ct_sorts.specs.Declarations.{Sort, IsSort, IsConstructor};
+ghost use Rattle.std.specs.Prelude.{◌≡◌, ◌<◌, ◌≤◌, ◌↔◌, Some, length, get_or, slice_get, IfOk, OnOk, IsTrue};
+ghost use Rattle.ct_sorts.specs.Declarations.{IsSort, IsConstructor};
+ghost use Rattle.ct_card.specs.Extended.{AreGrownBy, IsChosen};
 ghost use Rattle.ct_card.specs.Founding.{HasLowerFields, HasFounding};
-ghost use Rattle.ct_card.specs.Defaults.{AreChosen, IsChoice, AreLower};
+ghost use Rattle.ct_card.specs.Defaults.{AreLower};
 
 use crate::error::CardError;
 use crate::fields::push_fields;
 use ct_sorts::{CtorId, Signature, SortId};
 use std::alloc::Global;
 
-/// For each sort the constructor of its default value: of a datatype one whose fields have sorts of
+/// For each further sort the constructor of its default value: of a datatype one whose fields have sorts of
 /// lower ranks. For an uninterpreted sort, which has none, any.
-pub(crate) fn choices(
+pub(crate) fn push_choices(
     alloc: Global,
     sig: &Signature,
     ranks: &[usize],
-) -> Result<Vec<CtorId>, CardError>
+    ctors: &mut Vec<CtorId>,
+) -> Result<(), CardError>
     requires founded { HasFounding sig.now ranks.now }
-    ensures chosen { IfOk result (λ ctors. AreChosen sig.now ranks.now ctors.items) }
+    requires few { length ctors.old.items ≤ length sig.now.sorts }
+    ensures long { OnOk result (length ctors.new.items ≡ length sig.now.sorts) }
+    ensures chosen { OnOk result (AreGrownBy (IsChosen sig.now ranks.now) ctors.old.items ctors.new.items) }
 {
-    let mut ctors = Vec::with_capacity(alloc, ranks.len())?;
-    for s in 0..sig.sorts() {
+    let sorts = sig.sorts();
+    for s in ctors.len() as u32..sorts {
         ctors.push(choice(alloc, sig, ranks, SortId(s))?)?;
     }
-    Ok(ctors)
+    Ok(())
 }
 
 // The first constructor of the sort whose fields have sorts of lower ranks, or else the first.
 fn choice(alloc: Global, sig: &Signature, ranks: &[usize], s: SortId) -> Result<CtorId, CardError>
     requires inside { IsSort sig.now s }
     requires founded { HasFounding sig.now ranks.now }
-    ensures chosen { IfOk result (λ c. (sort : Sort) → slice_get sig.now.sorts s.0 ≡ Some sort → 0 < length sort.ctors → IsChoice sig.now ranks.now s.0 sort c) }
+    ensures chosen { IfOk result (IsChosen sig.now ranks.now s.0) }
 {
     let ctors = sig.ctors(s);
     for c in ctors {

@@ -1,4 +1,4 @@
-//! How values of a sort may depart from default values, and the layers by which values of infinite sorts are built.
+//! How values of a sort can differ from default values, and the layers by which values of infinite sorts are built.
 ghost use Rattle.std.specs.Prelude.{◌≡◌, ℕ, ◌<◌, ◌↔◌, length, Some, get_or, slice_get, IsTrue};
 ghost use Rattle.ct_sorts.specs.declared.ids.CtorId.{CtorId};
 ghost use Rattle.ct_sorts.specs.Declarations.{IsSort};

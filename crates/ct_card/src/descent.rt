@@ -1,5 +1,5 @@
-//! Ways down through layers: to an uninterpreted sort, to a value that was made before, or until so many layers were met at
-//! which a value could depart.
+//! Paths down through layers: to an uninterpreted sort, to a value that was made before, or until enough layers were met at
+//! which a value could differ.
 ghost use Rattle.std.specs.Prelude.{◌≡◌, ℕ, ◌+◌, ◌<◌, ◌≤◌, ◌⊎◌, [], ◌∷◌, ◌++◌, true, false, length, get_or, slice_get, Some, None, IfOk, OnOk, OnErr, IsTrue};
 ghost use Rattle.std.specs.Bool.{OnTrue, OnFalse};
 ghost use Rattle.ct_card.specs.declared.departure.Layer.{Layer};

@@ -1,13 +1,12 @@
-//! For each sort how its second value departs from its default value, and for each infinite sort a layer of its values.
-ghost use Rattle.std.specs.Prelude.{◌≡◌, ℕ, false, List, Some, slice_get, IfOk, MatchOption};
-ghost use Rattle.ct_sorts.specs.declared.ids.CtorId.{CtorId};
+//! For each sort how its second value differs from its default value, and for each infinite sort a layer of its values.
+ghost use Rattle.std.specs.Prelude.{◌≡◌, ◌≤◌, ℕ, false, List, Some, length, slice_get, IfOk, OnOk, MatchOption};
 ghost use Rattle.ct_sorts.specs.Declarations.{IsSort, IsConstructor};
 ghost use Rattle.ct_card.specs.Fields.{ctor_fields, ctors_of};
 ghost use Rattle.ct_card.specs.Rules.{IsDerived};
 ghost use Rattle.ct_card.specs.Ranked.{AreSeveral, AreSmall};
 ghost use Rattle.ct_card.specs.Defaults.{AreChosen, is_free_sort};
-ghost use Rattle.ct_card.specs.Cardinality.{IsInfinite};
-ghost use Rattle.ct_card.specs.Departures.{IsDeparture, AreSeconds, IsLayer, AreLayers, HasNoDeparture, IsLargeStep, HasSmallFields};
+ghost use Rattle.ct_card.specs.Departures.{IsDeparture, HasNoDeparture, IsLargeStep, HasSmallFields};
+ghost use Rattle.ct_card.specs.Extended.{AreGrownBy, IsLayerOf, IsSecond};
 
 use crate::choice::rank_of;
 use crate::defaults::is_free;
@@ -17,23 +16,26 @@ use crate::fields::push_fields;
 use ct_sorts::{CtorId, Signature, SortId, structure};
 use std::alloc::Global;
 
-/// For each sort how its second value departs from its default value, whose constructors are these.
-pub(crate) fn seconds(
+/// For each further sort how its second value departs from its default value, whose constructors are these.
+pub(crate) fn push_seconds(
     alloc: Global,
     sig: &Signature,
     several: &[usize],
     ctors: &[CtorId],
-) -> Result<Vec<Departure>, CardError>
+    all: &mut Vec<Departure>,
+) -> Result<(), CardError>
     requires several { AreSeveral sig.now several.now }
     requires chosen { (ranks : List ℕ) × AreChosen sig.now ranks ctors.now }
-    ensures seconds { IfOk result (λ all. AreSeconds sig.now several.now ctors.now all.items) }
+    requires few { length all.old.items ≤ length sig.now.sorts }
+    ensures long { OnOk result (length all.new.items ≡ length sig.now.sorts) }
+    ensures seconds { OnOk result (AreGrownBy (IsSecond sig.now several.now ctors.now) all.old.items all.new.items) }
 {
     structure();
-    let mut all = Vec::with_capacity(alloc, ctors.len())?;
-    for s in 0..sig.sorts() {
+    let sorts = sig.sorts();
+    for s in all.len() as u32..sorts {
         all.push(second(alloc, sig, several, SortId(s), ctors[s as usize])?)?;
     }
-    Ok(all)
+    Ok(())
 }
 
 // How the second value of the sort departs from its default value of this constructor.
@@ -60,22 +62,25 @@ fn second(
     Ok(departure_from(sig, several, &fields, s, c, fields.len()))
 }
 
-/// For each infinite sort with constructors a layer of its values.
-pub(crate) fn layers(
+/// For each further infinite sort with constructors a layer of its values.
+pub(crate) fn push_layers(
     alloc: Global,
     sig: &Signature,
     several: &[usize],
     small: &[usize],
-) -> Result<Vec<Layer>, CardError>
+    all: &mut Vec<Layer>,
+) -> Result<(), CardError>
     requires several { AreSeveral sig.now several.now }
     requires small { AreSmall sig.now several.now small.now }
-    ensures layers { IfOk result (λ all. AreLayers sig.now several.now all.items) }
+    requires few { length all.old.items ≤ length sig.now.sorts }
+    ensures long { OnOk result (length all.new.items ≡ length sig.now.sorts) }
+    ensures layers { OnOk result (AreGrownBy (IsLayerOf sig.now several.now) all.old.items all.new.items) }
 {
-    let mut all = Vec::with_capacity(alloc, several.len())?;
-    for s in 0..sig.sorts() {
+    let sorts = sig.sorts();
+    for s in all.len() as u32..sorts {
         all.push(layer(alloc, sig, several, small, SortId(s))?)?;
     }
-    Ok(all)
+    Ok(())
 }
 
 // A layer of values of the sort, if it is infinite and has constructors, and else any.
@@ -89,7 +94,7 @@ fn layer(
     requires inside { IsSort sig.now s }
     requires several { AreSeveral sig.now several.now }
     requires small { AreSmall sig.now several.now small.now }
-    ensures layer { IfOk result (λ found. IsInfinite sig.now s.0 → is_free_sort sig.now s.0 ≡ false → IsLayer sig.now several.now s.0 found) }
+    ensures layer { IfOk result (IsLayerOf sig.now several.now s.0) }
 {
     structure();
     prove!(sig.sorts() > 0);

@@ -1,4 +1,10 @@
-//! How many values sorts have, and makers of values.
+//! How many values sorts have, and how to construct values.
+//!
+//! A design choice:
+//!
+//! **Three least sets.** Sorts with several values, sorts with finitely many, and well-founded sorts are each derived by rules
+//! of one form, and the sizes are read off. It is proved that these are the greatest and the least set of the definition. A
+//! default value appends a node for each sort of the signature, so a caller that needs many of them should ask once.
 #![tactic(auto)]
 
 mod built;
@@ -25,4 +31,4 @@ pub use error::CardError;
 pub use prepared::Prepared;
 pub use size::Size;
 pub use sizes::Sizes;
-pub use theorems::{different_values, single_sorts, unique_sizes};
+pub use theorems::{different_values, single_sorts, stable_sizes, unique_sizes};

@@ -1,5 +1,5 @@
-//! Values of infinite sorts that were made before, each in a place that its sort and its number tell: a later one may have
-//! taken it.
+//! Values of infinite sorts that were made before, each at a place that is computed from its sort and its number: a later one
+//! may have overwritten it.
 ghost use Rattle.std.specs.Prelude.{◌≡◌, ℕ, ◌<◌, ◌⊎◌, List, length, Option, Some};
 ghost use Rattle.ct_values.specs.declared.node.NodeId.{NodeId};
 ghost use Rattle.ct_card.specs.Made.{IsMade};

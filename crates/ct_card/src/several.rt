@@ -1,52 +1,50 @@
-//! Which sorts have more than one value: those that have not exactly one constructor, and those
-//! that have a field of such a sort. All others are single.
-ghost use Rattle.std.specs.Prelude.{◌≡◌, ℕ, ◌+◌, ◌<◌, ◌++◌, [], ◌∷◌, List, Some, length, slice_get, if◌then◌else◌, IfOk, OnOk};
-ghost use Rattle.ct_card.specs.declared.chain.Rule.{Rule};
-ghost use Rattle.ct_card.specs.Rules.{IsOrder};
+//! Which sorts have more than one value: those that do not have exactly one constructor, and those that have a field of such a
+//! sort. All others are single.
+ghost use Rattle.std.specs.Prelude.{◌≡◌, ◌≤◌, [], ◌∷◌, length, if◌then◌else◌, IfOk, OnOk};
+ghost use Rattle.ct_sorts.specs.Declarations.{Declarations, IsSort};
+ghost use Rattle.ct_card.specs.Extended.{IsLater};
+ghost use Rattle.ct_card.specs.Fields.{sort_fields};
 ghost use Rattle.ct_card.specs.Ranked.{AreSeveral};
-ghost use Rattle.ct_card.specs.Ruled.{AreSeveralRules, IsCountRule, IsFieldRule};
-ghost use Rattle.ct_sorts.specs.Declarations.{IsSort, IsSelector};
-ghost use Rattle.ct_card.specs.Derived.{AreHeadsBelow};
+ghost use Rattle.ct_card.specs.Ruled.{AreItemRules, AreSeveralRules, IsCountRule, IsFieldRule};
+ghost use Rattle.ct_card.specs.Rules.{HaveStayed, IsOrder};
 
-use crate::chain::{Derived, Rule, derive};
+use crate::chain::{Rule, derive};
 use crate::error::CardError;
-use ct_sorts::{SelId, Signature, SortId, structure};
+use crate::fields::sort_fields;
+use ct_sorts::{Signature, SortId, structure};
 use std::alloc::Global;
 
-/// The ranks of the sorts of more than one value.
-pub(crate) fn several_ranks(alloc: Global, sig: &Signature) -> Result<Derived, CardError>
-    ensures several { IfOk result (λ all. AreSeveral sig.now all.ranks.items) }
-    ensures order { IfOk result (λ all. IsOrder all.ranks.items all.order.items) }
+/// The ranks of the sorts of more than one value, where those of earlier sorts are there.
+pub(crate) fn several_ranks(
+    alloc: Global,
+    sig: &Signature,
+    ranks: &mut Vec<usize>,
+    order: &mut Vec<usize>,
+) -> Result<(), CardError>
+    requires earlier { (earlier : Declarations) × IsLater sig.now earlier × AreSeveral earlier ranks.old.items }
+    requires order { IsOrder ranks.old.items order.old.items }
+    ensures several { OnOk result (AreSeveral sig.now ranks.new.items) }
+    ensures stayed { OnOk result (HaveStayed ranks.old.items ranks.new.items) }
+    ensures order { OnOk result (IsOrder ranks.new.items order.new.items) }
 {
     structure();
-    let rules = several_rules(alloc, sig)?;
-    let all = derive(alloc, sig.sorts() as usize, &rules)?;
-    Ok(all)
-}
-
-// The rules of all sorts and of all selectors.
-fn several_rules(alloc: Global, sig: &Signature) -> Result<Vec<Rule>, CardError>
-    ensures rules { IfOk result (λ rules. AreSeveralRules sig.now rules.items) }
-    ensures heads { IfOk result (λ rules. AreHeadsBelow (length sig.now.sorts) rules.items) }
-{
-    structure();
-    prove!(sig.sorts() > 0);
-    let mut rules = Vec::new(alloc);
-    push_count_rules(alloc, sig, &mut rules)?;
-    push_field_rules(alloc, sig, &mut rules)?;
-    Ok(rules)
-}
-
-// Puts a rule for each sort after none.
-fn push_count_rules(alloc: Global, sig: &Signature, rules: &mut Vec<Rule>) -> Result<(), CardError>
-    requires none { rules.old.items ≡ [] }
-    ensures long { OnOk result (length rules.new.items ≡ length sig.now.sorts) }
-    ensures each { OnOk result ((k : ℕ) (rule : Rule) → slice_get rules.new.items k ≡ Some rule → IsCountRule sig.now k rule) }
-{
-    for s in 0..sig.sorts() {
-        rules.push(count_rule(alloc, sig, SortId(s))?)?;
-    }
+    let sorts = sig.sorts();
+    let rules = several_rules(alloc, sig, ranks.len() as u32)?;
+    derive(alloc, sorts as usize, &rules, ranks, order)?;
     Ok(())
+}
+
+// The rules of the sorts from the first on.
+fn several_rules(alloc: Global, sig: &Signature, first: u32) -> Result<Vec<Rule>, CardError>
+    requires first { first ≤ length sig.now.sorts }
+    ensures rules { IfOk result (λ rules. AreSeveralRules sig.now first (length sig.now.sorts) rules.items) }
+{
+    let mut rules = Vec::new(alloc);
+    for s in first..sig.sorts() {
+        rules.push(count_rule(alloc, sig, SortId(s))?)?;
+        push_field_rules(alloc, sig, SortId(s), &mut rules)?;
+    }
+    Ok(rules)
 }
 
 // The rule for a sort.
@@ -58,27 +56,30 @@ fn count_rule(alloc: Global, sig: &Signature, s: SortId) -> Result<Rule, CardErr
     fact(alloc, s.0 as usize, !single)
 }
 
-// Puts a rule for each selector after those that are there.
-fn push_field_rules(alloc: Global, sig: &Signature, rules: &mut Vec<Rule>) -> Result<(), CardError>
-    ensures long { OnOk result (length rules.new.items ≡ length rules.old.items + length sig.now.sels) }
-    ensures stored { OnOk result ((k : ℕ) (rule : Rule) → k < length rules.old.items → slice_get rules.new.items k ≡ Some rule → slice_get rules.old.items k ≡ Some rule) }
-    ensures each { OnOk result ((i : ℕ) (rule : Rule) → slice_get rules.new.items (length rules.old.items + i) ≡ Some rule → IsFieldRule sig.now i rule) }
+// Puts a rule for each field of the sort after those that are there.
+fn push_field_rules(
+    alloc: Global,
+    sig: &Signature,
+    s: SortId,
+    rules: &mut Vec<Rule>,
+) -> Result<(), CardError>
+    requires inside { IsSort sig.now s }
+    ensures rules { OnOk result (AreItemRules (IsFieldRule s.0) (sort_fields sig.now s.0) rules.old.items rules.new.items) }
 {
-    for i in 0..sig.mark().sels() {
-        rules.push(field_rule(alloc, sig, SelId(i))?)?;
+    let fields = sort_fields(alloc, sig, s)?;
+    for i in 0..fields.len() {
+        rules.push(field_rule(alloc, s.0 as usize, fields[i])?)?;
     }
     Ok(())
 }
 
-// The rule of a selector.
-fn field_rule(alloc: Global, sig: &Signature, sel: SelId) -> Result<Rule, CardError>
-    requires inside { IsSelector sig.now sel }
-    ensures rule { IfOk result (IsFieldRule sig.now sel.0) }
+// The rule of a sort and the sort of one of its fields.
+fn field_rule(alloc: Global, s: usize, t: usize) -> Result<Rule, CardError>
+    ensures rule { IfOk result (IsFieldRule s t) }
 {
     let mut body = Vec::new(alloc);
-    body.push(sig.sel_sort(sel).0 as usize)?;
-    let head = sig.ctor_sort(sig.sel_ctor(sel)).0 as usize;
-    Ok(Rule { head, body })
+    body.push(t)?;
+    Ok(Rule { head: s, body })
 }
 
 /// A rule with this head: that it holds, or one that derives nothing.

@@ -1,23 +1,26 @@
 //! The sizes of all sorts of a signature, and makers of values.
-ghost use Rattle.std.specs.Prelude.{◌≡◌, ◌<◌, ◌↔◌, length, Some, None, slice_get, IfOk, OnOk, IfSome};
+ghost use Rattle.std.specs.Prelude.{◌≡◌, ℕ, ◌+◌, ◌<◌, ◌≤◌, ◌↔◌, List, length, Some, None, slice_get, IfOk, OnOk, OnErr, IfSome};
 ghost use Rattle.ct_sorts.specs.declared.ids.SortId.{SortId};
 ghost use Rattle.ct_sorts.specs.Declarations.{Declarations, IsSort};
-ghost use Rattle.ct_sorts.specs.Grown.{Begins};
+ghost use Rattle.ct_sorts.specs.Consistent.{IsConsistent};
+ghost use Rattle.ct_sorts.specs.Grown.{Begins, Extends};
 ghost use Rattle.ct_values.specs.Fitting.{HasNodeSort};
 ghost use Rattle.ct_values.specs.WellFormed.{IsWellFormedGraph};
 ghost use Rattle.ct_values.specs.Agreement.{node_point, AgreeAlways};
 ghost use Rattle.ct_card.specs.Cardinality.{HasSize, IsSingle};
+ghost use Rattle.ct_card.specs.Extended.{AreCut, AreGrownBy, AreKept, IsLater};
 ghost use Rattle.ct_card.specs.Made.{IsPrepared};
 ghost use Rattle.ct_card.specs.Nth.{IsNth};
-ghost use Rattle.ct_card.specs.Sizes.{AreDefaultValues, AreSizes, AreSizesBy, IsDefaultValue, size_by};
+ghost use Rattle.ct_card.specs.Rules.{IsOrder};
+ghost use Rattle.ct_card.specs.Sizes.{AreDefaultValues, AreSizes, IsDefaultValue, IsSizeBy, no_sizes, size_by};
 
 use crate::built::second_node;
-use crate::choice::choices;
+use crate::choice::push_choices;
 use crate::defaults::{append_defaults, node_of_sort, nodes_of_sorts};
 use crate::departure::{Departure, Layer};
 use crate::error::CardError;
 use crate::founded::founding;
-use crate::layers::{layers, seconds};
+use crate::layers::{push_layers, push_seconds};
 use crate::made::store_made;
 use crate::nth::append_nth;
 use crate::prepared::Prepared;
@@ -43,6 +46,8 @@ pub struct Sizes {
     ctors: Vec<CtorId>,
     seconds: Vec<Departure>,
     layers: Vec<Layer>,
+    small: Vec<usize>,
+    settled: Vec<usize>,
 }
 
 impl Model for Sizes {
@@ -50,7 +55,7 @@ impl Model for Sizes {
 
     ghost Value = { Table };
 
-    ghost view = { λ stored. record { sizes = stored.sizes.items; several = stored.several.items; queue = stored.queue.items; ranks = stored.ranks.items; order = stored.order.items; ctors = stored.ctors.items; seconds = stored.seconds.items; layers = stored.layers.items } };
+    ghost view = { λ stored. record { sizes = stored.sizes.items; several = stored.several.items; queue = stored.queue.items; ranks = stored.ranks.items; order = stored.order.items; ctors = stored.ctors.items; seconds = stored.seconds.items; layers = stored.layers.items; small = stored.small.items; settled = stored.settled.items } };
 }
 
 impl Sizes {
@@ -59,27 +64,47 @@ impl Sizes {
     pub fn new(alloc: Global, sig: &Signature) -> Result<Sizes, CardError>
         ensures sizes { IfOk result (λ sizes. AreSizes sig.now sizes) }
     {
+        let none = none(alloc);
+        let sizes = grown(sig, none)?;
+        Ok(sizes)
+    }
+
+    /// The sizes are those of an earlier state of the declarations; afterwards they are those of the signature. An error
+    /// changes nothing. The time is linear in the sorts that were added, their constructors and selectors; where there are
+    /// any, the lists are copied first.
+    pub fn extend(&mut self, sig: &Signature) -> Result<(), CardError>
+        requires earlier { (earlier : Declarations) × IsConsistent earlier × Extends sig.now earlier × AreSizes earlier self.old }
+        ensures sizes { OnOk result (AreSizes sig.now self.new) }
+        ensures unchanged { OnErr result (self.new ≡ self.old) }
+    {
         structure();
         prove!(sig.sorts() > 0);
-        let all = several_ranks(alloc, sig)?;
-        let several = all.ranks;
-        let small = small_ranks(alloc, sig, &several)?;
-        let sizes = sizes_by(alloc, &several, &small)?;
-        let found = founding(alloc, sig)?;
-        let ctors = choices(alloc, sig, &found.ranks)?;
-        let seconds = seconds(alloc, sig, &several, &ctors)?;
-        let layers = layers(alloc, sig, &several, &small)?;
-        Ok(Sizes {
-            alloc,
-            sizes,
-            several,
-            queue: all.order,
-            ranks: found.ranks,
-            order: found.order,
-            ctors,
-            seconds,
-            layers,
-        })
+        if self.sizes.len() == sig.sorts() as usize {
+            return Ok(());
+        }
+        let copy = self.copy()?;
+        let sizes = grown(sig, copy)?;
+        *self = sizes;
+        Ok(())
+    }
+
+    /// Keeps the sizes of the first sorts, as many as `sorts` says: those of an earlier state of the declarations, where it
+    /// had so many. Takes no memory. The time is linear in the sorts.
+    pub fn cut_to(&mut self, sorts: u32)
+        ensures sizes { (later earlier : Declarations) → IsConsistent earlier → Extends later earlier → sorts ≡ length earlier.sorts → AreSizes later self.old → AreSizes earlier self.new }
+    {
+        structure();
+        let count = sorts as usize;
+        if count >= self.sizes.len() {
+            return;
+        }
+        self.sizes.truncate(count);
+        self.ctors.truncate(count);
+        self.seconds.truncate(count);
+        self.layers.truncate(count);
+        keep_below(count, &mut self.several, &mut self.queue);
+        keep_below(count, &mut self.ranks, &mut self.order);
+        keep_below(count, &mut self.small, &mut self.settled);
     }
 
     /// Equal sizes.
@@ -96,6 +121,8 @@ impl Sizes {
             ctors: Vec::from_slice(self.alloc, self.ctors.as_slice())?,
             seconds: Vec::from_slice(self.alloc, self.seconds.as_slice())?,
             layers: Vec::from_slice(self.alloc, self.layers.as_slice())?,
+            small: Vec::from_slice(self.alloc, self.small.as_slice())?,
+            settled: Vec::from_slice(self.alloc, self.settled.as_slice())?,
         })
     }
 
@@ -144,9 +171,9 @@ impl Sizes {
         Ok(nodes)
     }
 
-    /// Two values of the sort that are not the same, or `None` exactly where the sort has one value: the numbers of their
-    /// nodes, which are put after the graph with other values that they need. The sizes are those of the signature. Where
-    /// the answer is an error, the graph may have grown.
+    /// Two different values of the sort, or `None` exactly if the sort has one value: the numbers of their nodes, which
+    /// are appended to the graph with other values that they need. The sizes are those of the signature. Where the
+    /// answer is an error, the graph may have grown.
     pub fn two_values(
         &self,
         sig: &Signature,
@@ -235,9 +262,9 @@ impl Sizes {
         Ok(k)
     }
 
-    /// Puts default values and second values of all sorts after the graph, over which `nth_over` makes others. It keeps the
-    /// values that it makes in so many places. The sizes are those of the signature. Where the answer is an error, the graph
-    /// may have grown.
+    /// Appends default values and second values of all sorts to the graph, from which `nth_over` makes others. It keeps
+    /// the values that it makes in so many places. The sizes are those of the signature. Where the answer is an error,
+    /// the graph may have grown.
     pub fn prepare(
         &self,
         sig: &Signature,
@@ -266,8 +293,8 @@ impl Sizes {
         Ok(Prepared { base, second, made })
     }
 
-    /// The n-th value of an infinite sort, as by `nth`, over a graph that is prepared: only the layers around a value that was
-    /// made before and is still kept are put after the graph. Where the answer is an error, the graph may have grown.
+    /// The n-th value of an infinite sort, as by `nth`, over a prepared graph: only the layers around a value that was
+    /// made before and is still stored are appended. Where the answer is an error, the graph may have grown.
     pub fn nth_over(
         &self,
         sig: &Signature,
@@ -306,16 +333,88 @@ impl Sizes {
     }
 }
 
-// The sizes of all sorts by their ranks.
-fn sizes_by(alloc: Global, several: &[usize], small: &[usize]) -> Result<Vec<Size>, CardError>
-    requires long { length several.now ≡ length small.now }
-    ensures sizes { IfOk result (λ sizes. AreSizesBy several.now small.now sizes.items) }
+// The sizes of no sorts.
+fn none(alloc: Global) -> Sizes
+    ensures none { result ≡ no_sizes }
 {
-    let mut sizes = Vec::with_capacity(alloc, several.len())?;
-    for s in 0..several.len() {
+    Sizes {
+        alloc,
+        sizes: Vec::new(alloc),
+        several: Vec::new(alloc),
+        queue: Vec::new(alloc),
+        ranks: Vec::new(alloc),
+        order: Vec::new(alloc),
+        ctors: Vec::new(alloc),
+        seconds: Vec::new(alloc),
+        layers: Vec::new(alloc),
+        small: Vec::new(alloc),
+        settled: Vec::new(alloc),
+    }
+}
+
+// The sizes of an earlier state of the declarations with those of the sorts that were added.
+fn grown(sig: &Signature, earlier: Sizes) -> Result<Sizes, CardError>
+    requires earlier { (before : Declarations) × IsLater sig.now before × AreSizes before earlier }
+    ensures sizes { IfOk result (AreSizes sig.now) }
+{
+    structure();
+    prove!(sig.sorts() > 0);
+    let mut all = earlier;
+    let alloc = all.alloc;
+    several_ranks(alloc, sig, &mut all.several, &mut all.queue)?;
+    small_ranks(alloc, sig, &all.several, &mut all.small, &mut all.settled)?;
+    push_sizes(&all.several, &all.small, &mut all.sizes)?;
+    founding(alloc, sig, &mut all.ranks, &mut all.order)?;
+    push_choices(alloc, sig, &all.ranks, &mut all.ctors)?;
+    push_seconds(alloc, sig, &all.several, &all.ctors, &mut all.seconds)?;
+    push_layers(alloc, sig, &all.several, &all.small, &mut all.layers)?;
+    Ok(all)
+}
+
+// The sizes of further sorts by their ranks.
+fn push_sizes(several: &[usize], small: &[usize], sizes: &mut Vec<Size>) -> Result<(), CardError>
+    requires long { length several.now ≡ length small.now }
+    requires few { length sizes.old.items ≤ length several.now }
+    ensures long { OnOk result (length sizes.new.items ≡ length several.now) }
+    ensures sizes { OnOk result (AreGrownBy (IsSizeBy several.now small.now) sizes.old.items sizes.new.items) }
+{
+    for s in sizes.len()..several.len() {
         sizes.push(size_by(several[s], small[s]))?;
     }
-    Ok(sizes)
+    Ok(())
+}
+
+// Keeps the ranks of the first numbers, and these in their order, which they count anew from 1.
+fn keep_below(count: usize, ranks: &mut Vec<usize>, order: &mut Vec<usize>)
+    ensures cut { count ≤ length ranks.old.items → IsOrder ranks.old.items order.old.items → AreCut ranks.old.items ranks.new.items count }
+    ensures order { count ≤ length ranks.old.items → IsOrder ranks.old.items order.old.items → IsOrder ranks.new.items order.new.items }
+{
+    ranks.truncate(count);
+    let mut kept = 0;
+    for i in 0..order.len() {
+        kept = keep(i, kept, ranks, order);
+    }
+    order.truncate(kept);
+}
+
+// Keeps the number at this index of the order, if it has a place among the ranks, behind those that were kept. How many are
+// kept then.
+fn keep(i: usize, kept: usize, ranks: &mut Vec<usize>, order: &mut Vec<usize>) -> usize
+    requires within { i < length order.old.items }
+    requires few { kept ≤ i }
+    ensures few { result ≤ i + 1 }
+    ensures long { length order.new.items ≡ length order.old.items }
+    ensures kept { (count : ℕ) (all whole : List ℕ) → IsOrder all whole
+        → AreKept count all whole ranks.old.items order.old.items i kept
+        → AreKept count all whole ranks.new.items order.new.items (i + 1) result }
+{
+    let n = order[i];
+    if n >= ranks.len() {
+        return kept;
+    }
+    order[kept] = n;
+    ranks[n] = kept + 1;
+    kept + 1
 }
 
 // The size of a sort by its ranks.

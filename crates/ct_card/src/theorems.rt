@@ -1,9 +1,9 @@
-//! What holds of sizes and of values of sorts. A theorem is the contract of a function that does
-//! nothing.
-ghost use Rattle.std.specs.Prelude.{◌≡◌, ℕ, ◌⊎◌, ◌<◌};
+//! Theorems about sizes and values of sorts. Each is the contract of a function that does nothing.
+ghost use Rattle.std.specs.Prelude.{◌≡◌, ℕ, ◌⊎◌, ◌<◌, ◌↔◌, length};
 ghost use Rattle.ct_sorts.specs.declared.ids.SortId.{SortId};
 ghost use Rattle.ct_sorts.specs.Declarations.{Declarations};
 ghost use Rattle.ct_sorts.specs.Consistent.{IsConsistent};
+ghost use Rattle.ct_sorts.specs.Grown.{Extends};
 ghost use Rattle.ct_card.specs.declared.size.Size.{Size};
 ghost use Rattle.ct_card.specs.Cardinality.{HasSize, IsSingle, IsInfinite};
 ghost use Rattle.ct_card.specs.Sizes.{Table};
@@ -59,4 +59,13 @@ pub fn different_values()
     ensures several { (d : Declarations) (s : ℕ) → IsInfinite d s → IsSingle d s → ⊥ }
 {
     agreement();
+}
+
+/// The theorem of sizes where more is declared. It does nothing: a proof that needs it calls it.
+pub fn stable_sizes()
+    // A sort has one size in the earlier declarations and in the later ones.
+    ensures stays { (later earlier : Declarations) (s : ℕ) (size : Size) → IsConsistent earlier → Extends later earlier
+        → s < length earlier.sorts → HasSize earlier s size ↔ HasSize later s size }
+{
+    structure();
 }

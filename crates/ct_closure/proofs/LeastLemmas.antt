@@ -91,12 +91,27 @@ module _ (table : Terms) where
   unfolding all_trees
   length-all_trees = length-trees_below table (length table)
 
-module _ (th : TreeTheorems) (d : Declarations) (old new : Terms) (asserts : List TermId) (exact : AreSubtermsOf old asserts) (booleans : All (IsBoolean old) asserts) (step : IsStep d old new) where
+-- the terms of a table of subterms of some are in their closure, and these stand there
+pub assert_inside : (d : Declarations) (table : Terms) (asserts : List TermId) → AreSubtermsOf table asserts → (t : TermId) → t.0 < length table → InClosure d (terms_at table asserts) (term_at table t)
+assert_inside d table asserts exact t below set closed =
+    let root = exact t below in
+    closed.closed.subterms root.0 (term_at table t) (closed.rooted root.0 root.1) root.2
+
+pub assert_within : (table : Terms) (asserts : List TermId) → All (IsBoolean table) asserts → (a : TermId) → Contains asserts a → a.0 < length table
+assert_within table asserts booleans a h =
+    let boolean = All-contains (IsBoolean table) asserts a booleans h in
+    slice_get_within table a.0 (boolean.0, bool_sort) boolean.1
+
+pub assert_rooted : (table : Terms) (asserts : List TermId) → All (IsBoolean table) asserts → (t : CoreTree) → Contains (terms_at table asserts) t → HasTree table t
+assert_rooted table asserts booleans t h =
+    let found = Contains-map_cases (term_at table) asserts t h in
+    (found.0, assert_within table asserts booleans found.0 found.1, found.2)
+
+module _ (th : TreeTheorems) (d : Declarations) (old new : Terms) (roots : List CoreTree) (inside : (t : TermId) → t.0 < length old → InClosure d roots (term_at old t)) (rooted : (t : CoreTree) → Contains roots t → HasTree old t) (step : IsStep d old new) where
   -- what the table has is in each closed set with the roots
-  pub in_closure : (t : CoreTree) → HasTree new t → InClosure d (terms_at old asserts) t
+  pub in_closure : (t : CoreTree) → HasTree new t → InClosure d roots t
   in_closure t (n, within, e) set closed =
-      subst (Contains set) e
-      (step.forced set closed.closed (λ u below. let root = exact u below in closed.closed.subterms root.0 (term_at old u) (closed.rooted root.0 root.1) root.2) n within)
+      subst (Contains set) e (step.forced set closed.closed (λ u below. inside u below set closed) n within)
 
   -- `true` and `false` stand in the table, and the roots do
   truth_stands : BeginsWithTruths new → (t : CoreTree) → Contains truth_trees t → HasTree new t
@@ -114,28 +129,22 @@ module _ (th : TreeTheorems) (d : Declarations) (old new : Terms) (asserts : Lis
           let at : slice_get new n ≡ Some (Con (record { 0 = n }) [], bool_sort) = slice_get-take 2 new n (Con (record { 0 = n }) [], bool_sort) (ap (λ (ts : Terms). slice_get ts n) begins ∙ first) in
           (record { 0 = n }, slice_get_within new n (Con (record { 0 = n }) [], bool_sort) at, layer_at th new step.sound.ordered (Con (record { 0 = n }) []) (record { 0 = n }) (bool_sort, at))
 
-  root_stands : (a : TermId) → Contains asserts a → HasTree new (term_at old a)
-  root_stands a h =
-      let boolean = All-contains (IsBoolean old) asserts a booleans h in
-      let within : a.0 < length old = slice_get_within old a.0 (boolean.0, bool_sort) boolean.1 in
-      (a, omega (arith, within, longer old new step.grown), term_stays th old new step.grown step.sound.ordered a within)
-
-  roots_stand : (t : CoreTree) → Contains (terms_at old asserts) t → HasTree new t
+  pub roots_stand : (t : CoreTree) → Contains roots t → HasTree new t
   roots_stand t h =
-      let found = Contains-map_cases (term_at old) asserts t h in
-      subst (HasTree new) found.2 (root_stands found.0 found.1)
+      let at = rooted t h in
+      (at.0, omega (arith, at.1, longer old new step.grown), term_stays th old new step.grown step.sound.ordered at.0 at.1 ∙ at.2)
 
   -- a closed table has the whole closure
-  pub has_closure : BeginsWithTruths new → IsClosedTable d new → (t : CoreTree) → InClosure d (terms_at old asserts) t → HasTree new t
+  pub has_closure : BeginsWithTruths new → IsClosedTable d new → (t : CoreTree) → InClosure d roots t → HasTree new t
   has_closure begins closed t h =
       listed-Stands new t
       (h (all_trees new) (record {
-        rooted = λ u inside. Stands-listed new u (elim (Contains-append_cases truth_trees (terms_at old asserts) u inside) [ inl truth ↦ truth_stands begins u truth | inr root ↦ roots_stand u root ]);
+        rooted = λ u inside. Stands-listed new u (elim (Contains-append_cases truth_trees roots u inside) [ inl truth ↦ truth_stands begins u truth | inr root ↦ roots_stand u root ]);
         closed = same_closed d (HasTree new) (Contains (all_trees new)) (Stands-listed new) (listed-Stands new) closed;
       }))
 
   -- where the table is long, the closure has as many terms
-  pub many : (count : ℕ) → count < length new → HasMoreThan d (terms_at old asserts) count
+  pub many : (count : ℕ) → count < length new → HasMoreThan d roots count
   many count large =
       record {
         members = all_trees new;

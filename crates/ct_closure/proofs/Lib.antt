@@ -7,3 +7,5 @@ pub mod LeastLemmas
 pub mod ListingLemmas
 pub mod WayLemmas
 pub mod VariableLemmas
+pub mod LaterLemmas
+pub mod FurtherLemmas

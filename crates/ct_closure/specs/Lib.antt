@@ -3,3 +3,4 @@ pub mod ClosedTable
 pub mod Variables
 pub mod Steps
 pub mod Trees
+pub mod Further

@@ -1,4 +1,4 @@
-//! One term more.
+//! Adds one term.
 ghost use Rattle.std.specs.Prelude.{◌≡◌, ◌<◌, ◌≤◌, length, OnOk, IfOk, IsErrOf};
 ghost use Rattle.ct_sorts.specs.declared.ids.SortId.{SortId};
 ghost use Rattle.ct_terms.specs.Terms.{HasSort, IsOfSort, IsWellSorted, Has};

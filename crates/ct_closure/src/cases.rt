@@ -1,5 +1,4 @@
-//! What a split of a term needs: for each constructor of its sort the test, the fields, and the
-//! constructor term over them.
+//! What a split of a term needs: for each constructor of its sort the tester, the fields, and the constructor term over them.
 ghost use Rattle.std.specs.Prelude.{◌≡◌, ◌<◌, ◌≤◌, length, OnOk, IfOk, IsErrOf, Contains};
 ghost use Rattle.std.specs.List.{AllZip};
 ghost use Rattle.ct_sorts.specs.declared.ids.SortId.{SortId};

@@ -24,8 +24,8 @@ use std::marker::Model;
 /// What a search needs to know of the closure of its assertions, beside the table that holds it.
 #[derive(Debug, Drop)]
 pub struct Closure {
-    split: Vec<TermId>,
-    variables: u64,
+    pub(crate) split: Vec<TermId>,
+    pub(crate) variables: u64,
 }
 
 impl Model for Closure {

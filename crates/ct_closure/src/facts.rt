@@ -1,4 +1,4 @@
-//! What the steps rest on: the theorems on terms as trees, and what holds of every table.
+//! The facts on which the steps rest: theorems on terms as trees, and what holds of every table.
 ghost use Rattle.std.specs.Prelude.{◌≤◌, length};
 ghost use Rattle.ct_sorts.specs.Consistent.{IsConsistent};
 ghost use Rattle.ct_sorts.specs.Structure.{HaveOwnConstructors, AreOfTheirSorts, HaveOwnSelectors};

@@ -1,4 +1,4 @@
-//! The terms of a table in the order of their numbers, each with what the rules ask for it.
+//! Visits the terms of a table in the order of their numbers, and adds what the rules ask for.
 ghost use Rattle.std.specs.Prelude.{◌≡◌, ◌<◌, ◌≤◌, ◌↔◌, ◌+◌, length, take, IsTrue, Some, OnOk, IfOk, IsErrOf};
 ghost use Rattle.ct_sorts.specs.declared.ids.SortId.{SortId};
 ghost use Rattle.ct_sorts.specs.Declarations.{IsSort};
@@ -40,10 +40,33 @@ pub(crate) fn close_table(
     ensures large { IsErrOf result CloseError.TooLarge → most_closure_terms < length table.new }
 {
     let mut marks = Vec::new(alloc);
-    while marks.len() < table.len() as usize {
-        take_next(alloc, sig, sizes, table, &mut marks)?;
-    }
+    go_on(alloc, sig, sizes, table, &mut marks)?;
     Ok(marks)
+}
+
+/// Goes on with the terms of the table that are not taken yet, which come after as many as there are marks.
+pub(crate) fn go_on(
+    alloc: Global,
+    sig: &Signature,
+    sizes: &Sizes,
+    table: &mut TermTable,
+    marks: &mut Vec<bool>,
+) -> Result<(), CloseError>
+    requires sizes { AreSizes sig.now sizes.now }
+    requires sound { IsSound sig.now table.old }
+    requires few { length table.old ≤ most_closure_terms }
+    requires within { length marks.old.items ≤ length table.old }
+    requires under_way { IsUnderWay sig.now table.old marks.old.items }
+    ensures step { IsStep sig.now table.old table.new }
+    ensures long { OnOk result (length marks.new.items ≡ length table.new) }
+    ensures taken { OnOk result (IsUnderWay sig.now table.new marks.new.items) }
+    ensures few { OnOk result (length table.new ≤ most_closure_terms) }
+    ensures large { IsErrOf result CloseError.TooLarge → most_closure_terms < length table.new }
+{
+    while marks.len() < table.len() as usize {
+        take_next(alloc, sig, sizes, table, marks)?;
+    }
+    Ok(())
 }
 
 // Takes the next term.

@@ -6,6 +6,7 @@
 
 mod blocks;
 mod generate;
+mod grown;
 mod order;
 mod show;
 mod sized;
@@ -75,6 +76,9 @@ fn answer_kind(
     out: &mut String,
 ) -> Result<bool, CaseError> {
     if sized::answer(alloc, sig, kind, parts, out)? {
+        return Ok(true);
+    }
+    if grown::answer(alloc, kind, parts, out)? {
         return Ok(true);
     }
     if values::answer(alloc, sig, kind, parts, out)? {

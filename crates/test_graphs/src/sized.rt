@@ -3,7 +3,7 @@
 ghost use Rattle.std.specs.Prelude.{IfOk};
 ghost use Rattle.ct_card.specs.Sizes.{AreSizes};
 
-use ct_card::{CardError, Size, Sizes, different_values, single_sorts, unique_sizes};
+use ct_card::{CardError, Size, Sizes, different_values, single_sorts, stable_sizes, unique_sizes};
 use ct_cases::{CaseError, show_bytes, sort_of};
 use ct_ordering::no_both;
 use ct_sexpr::Sexpr;
@@ -36,6 +36,7 @@ pub fn answer(
 /// Calls the functions that do nothing.
 fn call_theorems(out: &mut String) -> Result<(), CaseError> {
     unique_sizes();
+    stable_sizes();
     single_sorts();
     different_values();
     no_both();
@@ -64,7 +65,7 @@ fn copied_sizes(alloc: Global, sig: &Signature) -> Result<Box<Sizes>, CaseError>
 }
 
 /// Shows sorts with their sizes.
-fn show_sizes(
+pub fn show_sizes(
     alloc: Global,
     sig: &Signature,
     sizes: &Sizes,

@@ -5,7 +5,7 @@ use Rattle.ct_card.proofs.RankLemmas.{IsUnderWay-fired, missing_ranks-set}
 use Rattle.ct_card.proofs.chain.fire.Goals as goal
 
 pub returns-clause-under_way : goal.returns-clause-under_way
-returns-clause-under_way c = λ rules k stated before.
+returns-clause-under_way c = λ old rules k stated before.
     let ranks = c.args.ranks.now.items in
     let rule = c.args.rule.now in
     let order = c.args.order.now.items in
@@ -14,7 +14,7 @@ returns-clause-under_way c = λ rules k stated before.
     let ready : IsReady ranks rule = subst (λ (xs : List ℕ). IsReady xs rule) c.deref.ensures.value (c.is_ready.ensures.ready.0 c.if-not-is_ready.false) in
     let new : c.push.new.self.items ≡ order ++ rule.head ∷ [] = c.in_ok-push.ensures.items in
     let rank : c.len.result ≡ length order + 1 = omega (arith, c.in_ok-push.ensures.len, c.len.ensures) in
-    rw (new, rank) (IsUnderWay-fired rules ranks order k rule stated before c.requires.head fresh ready)
+    rw (new, rank) (IsUnderWay-fired old rules ranks order k rule stated before c.requires.head fresh ready)
 
 pub returns-clause-fewer : goal.returns-clause-fewer
 returns-clause-fewer c = λ _.

@@ -13,9 +13,9 @@ pub loop-rule-preserved : goal.loop-rule-preserved
 loop-rule-preserved c =
     let at = slice_get_read c.args.rules.now _ c.loop-rule.rule-index c.rule-item.result refl c.loop-rule-test.true c.rule-item.is in
     let f = c.in_ok-now.ensures in
-    rw c.either-fired.ensures.value (round_step c.args.rules.now c.args.ranks.now.items c.loop-rule.ranks.items c.loop-rule.order.items c.fire.new.ranks.items c.fire.new.order.items c.loop-rule.rule-index c.loop-rule.fired c.in_ok-now.now c.rule-item.result at c.loop-rule.invariant
+    rw c.either-fired.ensures.value (round_step c.args.rules.now c.args.ranks.now.items c.args.order.now.items c.loop-rule.ranks.items c.loop-rule.order.items c.fire.new.ranks.items c.fire.new.order.items c.loop-rule.rule-index c.loop-rule.fired c.in_ok-now.now c.rule-item.result at c.loop-rule.invariant
     f.long
-    (f.under_way c.args.rules.now c.loop-rule.rule-index at c.loop-rule.invariant.under_way)
+    (λ old start. f.under_way old c.args.rules.now c.loop-rule.rule-index at (c.loop-rule.invariant.under_way old start))
     f.fewer
     (λ e. (OnFalse_at e f.same).0)
     (λ e. OnFalse_at e f.stable))

@@ -1,13 +1,23 @@
-use Rattle.ct_card.specs.Ruled.{AreSeveralRules}
-use Rattle.ct_card.proofs.RuleLemmas.{several_heads, several_made}
+use Rattle.std.proofs.Common.{List, ◌++◌, ◌∷◌, [], subst, arith}
+use Rattle.ct_card.specs.declared.chain.Rule.{Rule}
+use Rattle.ct_card.specs.Fields.{sort_fields}
+use Rattle.ct_card.specs.Ruled.{AreItemRules, AreSortRules, IsCountRule, IsFieldRule}
+use Rattle.ct_card.proofs.SortRuleLemmas.{no_sort_rules, more_sort_rules}
 use Rattle.ct_card.proofs.several.several_rules.Goals as goal
 
-pub returns : goal.returns
-returns c =
+pub loop-s-init : goal.loop-s-init
+loop-s-init c =
     let d = c.args.sig.now in
-    let s = c.structure.ensures in
-    let counts = c.in_ok-push_count_rules.ensures in
-    let fields = c.in_ok-push_field_rules.ensures in
-    let rules : AreSeveralRules d c.push_field_rules.new.rules.items = several_made d c.push_count_rules.new.rules.items c.push_field_rules.new.rules.items counts.long counts.each fields.long fields.stored fields.each in
-    let consistent = c.sorts.ensures.consistent in
-    record { rules = rules; heads = several_heads d consistent (s.own_constructors d consistent) (s.own_selectors d consistent) (s.of_their_sorts d consistent) (s.of_their_constructors d consistent) c.push_field_rules.new.rules.items rules }
+    record { from = omega arith; rules = no_sort_rules (IsCountRule d) (sort_fields d) IsFieldRule c.args.first c.new-rules.result.items c.new-rules.ensures.items }
+
+pub loop-s-preserved : goal.loop-s-preserved
+loop-s-preserved c =
+    let d = c.args.sig.now in
+    let s = c.loop-s.s in
+    let rules = c.loop-s.rules.items in
+    let new = c.in_ok-count_rule.field-0 in
+    let items = subst (λ (l : List Rule). AreItemRules (IsFieldRule s) (sort_fields d s) l c.push_field_rules.new.rules.items) c.in_ok-push.ensures.items c.in_ok-push_field_rules.ensures.rules in
+    record {
+      from = omega (arith, c.loop-s.invariant.from);
+      rules = more_sort_rules (IsCountRule d) (sort_fields d) IsFieldRule c.args.first s rules c.push_field_rules.new.rules.items new c.loop-s.invariant.from c.loop-s.invariant.rules c.in_ok-count_rule.ensures.rule items;
+    }

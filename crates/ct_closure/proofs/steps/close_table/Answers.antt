@@ -1,20 +1,12 @@
 use Rattle.std.proofs.Common.{length, ap, arith}
-use Rattle.ct_closure.proofs.GrowthLemmas.{step_none, step_then, longer}
 use Rattle.ct_closure.proofs.WayLemmas.{under_way_none}
 use Rattle.ct_closure.proofs.steps.close_table.Goals as goal
 
-pub loop-alloc-init : goal.loop-alloc-init
-loop-alloc-init c = record {
-  step = step_none c.args.sig.now c.args.table.now c.requires.sound;
+pub go_on-requires : goal.go_on-requires
+go_on-requires c = record {
+  sizes = c.requires.sizes;
+  sound = c.requires.sound;
   few = c.requires.few;
   within = omega (arith, ap length c.new-marks.ensures.items);
   under_way = under_way_none c.args.sig.now c.args.table.now c.new-marks.result.items c.new-marks.ensures.items;
-}
-
-pub loop-alloc-preserved : goal.loop-alloc-preserved
-loop-alloc-preserved c = record {
-  step = step_then c.args.sig.now c.args.table.now c.loop-alloc.table c.take_next.new.table c.loop-alloc.invariant.step c.take_next.ensures.step;
-  few = c.in_ok-take_next.ensures.few;
-  within = omega (arith, c.in_ok-take_next.ensures.long, longer c.loop-alloc.table c.take_next.new.table c.take_next.ensures.step.grown, c.loop-alloc-test.true, c.len.ensures, c.len-in-loop-alloc.ensures.count, c.loop-alloc.marks.ok.0);
-  under_way = c.in_ok-take_next.ensures.under_way;
 }
