@@ -1,4 +1,4 @@
-//! A search that begins anew over the lines of the derivation that there is.
+//! Restarts a search over the lines that the derivation has.
 ghost use Rattle.std.specs.Prelude.{◌≡◌, ℕ, ◌+◌, ◌<◌, ◌≤◌, true, [], ◌∷◌, ◌++◌, length, take, IfOk, OnOk, IsErrOf};
 ghost use Rattle.ct_engine.specs.Progress.{IsUnderWay, IsOfOneTask, IsOfOneClosure, IsSearchOver, AreUpTo, beginning_of};
 ghost use Rattle.ct_engine.specs.Keeping.{AddsFirst, HasFirst};

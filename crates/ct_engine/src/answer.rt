@@ -1,4 +1,4 @@
-//! What a search that has ended found.
+//! The outcome of a search that has ended.
 ghost use Rattle.std.specs.Prelude.{◌≡◌, ◌+◌, true, List, All, IfOk, IsErrOf};
 ghost use Rattle.ct_sorts.specs.Declarations.{Declarations};
 ghost use Rattle.ct_terms.specs.declared.ids.TermId.{TermId};

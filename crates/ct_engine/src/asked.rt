@@ -1,4 +1,4 @@
-//! What the theory was asked about last, and which literals are news to it.
+//! What the theory was asked last, and which literals are news to it.
 ghost use Rattle.std.specs.Prelude.{◌≡◌, ◌≤◌, ◌<◌, length, IfOk, IsErrOf};
 
 use crate::error::SolveError;

@@ -1,4 +1,4 @@
-//! A search under way, with the derivation that accounts for its clauses and, where it is recorded, its moves.
+//! A search in progress, with the derivation that justifies its clauses and, if it is recorded, its moves.
 ghost use Rattle.std.specs.Prelude.{◌≡◌, ◌+◌, true, [], ◌∷◌, ◌++◌, length, OnOk, IsErrOf};
 ghost use Rattle.ct_engine.specs.Keeping.{HasFirst};
 

@@ -1,4 +1,5 @@
-//! Steps to contradictions, written down. Whether they are right the checker says of the line in which they stand.
+//! Equality steps that lead to a contradiction. Whether they are right is decided by the checker, for the line that contains
+//! them.
 ghost use Rattle.std.specs.Prelude.{IsErrOf};
 
 use crate::error::SolveError;

@@ -1,5 +1,5 @@
-//! What a guided search goes by: the activity and the last value of each variable, when it begins anew, and which clauses it
-//! keeps (Moskewicz et al. 2001; Eén and Sörensson 2003; Audemard and Simon 2009). Nothing that is proved rests on it.
+//! The heuristics of a guided search: the activity and the last value of each variable, when to restart, and which clauses to
+//! keep (Moskewicz et al. 2001; Eén and Sörensson 2003; Audemard and Simon 2009). Nothing that is proved rests on them.
 
 use crate::luby::Luby;
 use crate::queue::{Queue, number_of, read, write};

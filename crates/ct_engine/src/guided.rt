@@ -1,4 +1,4 @@
-//! What a guided search does otherwise than a recorded one: which literal it decides, and when it takes back all decisions.
+//! What a guided search does differently from a recorded one: which literal it decides, and when it undoes all decisions.
 ghost use Rattle.std.specs.Prelude.{◌≡◌, false, Contains, IfSome, MatchBool};
 ghost use Rattle.ct_sorts.specs.Grown.{Begins};
 ghost use Rattle.ct_sat.specs.Up.{IsAssigned};

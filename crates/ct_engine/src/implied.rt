@@ -1,46 +1,69 @@
 //! What the theory implies before the first decision: a variable whose class is that of a truth value has it under every
-//! decision. The equation is explained once, and its clause is a unit under the trail.
-ghost use Rattle.std.specs.Prelude.{◌≡◌, ◌<◌, Bool, Some, length, IsErrOf};
-ghost use Rattle.ct_rules.specs.Rules.{truth_term};
-ghost use Rattle.ct_congr.specs.State.{AreEqual};
-ghost use Rattle.ct_explain.specs.Trees.{IsForestOfClasses};
+//! decision. The value is explained once, over those that were explained before it, and its clause is a unit under the trail.
+ghost use Rattle.std.specs.Prelude.{◌<◌, length, IsErrOf};
 
 use crate::course::Course;
 use crate::draft::contradict;
 use crate::error::SolveError;
 use ct_congr::Classes;
-use ct_explain::{EqProof, Forest};
+use ct_explain::{EqProof, Implied, Layers};
 use ct_terms::{Core, TermId, TermTable};
 use std::alloc::Global;
 
-/// An explanation goes over all merges, and of all together not many more than this are gone over.
-const MOST_MERGES: usize = 50_000_000;
+/// With so many steps the contradiction of a value and its opposite is told.
+const LAST_STEPS: usize = 3;
 
-/// The steps of a line for each variable without a value on the trail to which the classes give one, as long as there is time.
+/// The steps of a line of at most so many for each variable to which the classes give a value that it had not before, the line
+/// that rests on most others first. The layers follow the classes, and are begun where some variable without a value on the trail
+/// has one by the classes.
 pub(crate) fn implied_drafts(
     alloc: Global,
     course: &Course,
     classes: &Classes,
+    layers: &mut Option<Layers>,
+    most: usize,
 ) -> Result<Vec<EqProof>, SolveError>
     ensures err { IsErrOf result SolveError.TooLarge → ⊥ }
 {
-    let has_value = valued(alloc, course)?;
-    if !is_one_implied(&has_value, classes) {
-        return Ok(Vec::new(alloc));
+    if layers.is_none() {
+        let has_value = valued(alloc, course)?;
+        if !is_one_implied(&has_value, classes) {
+            return Ok(Vec::new(alloc));
+        }
+        *layers = Some(Layers::new(alloc, classes, most.saturating_sub(LAST_STEPS))?);
     }
-    let forest = Forest::new(alloc, classes)?;
-    let most = MOST_MERGES / (classes.merges().len() + 1);
+    match layers {
+        Some(layers) => drafts_of(alloc, layers, classes),
+        None => Ok(Vec::new(alloc)),
+    }
+}
+
+// The same, of layers that were begun.
+fn drafts_of(
+    alloc: Global,
+    layers: &mut Layers,
+    classes: &Classes,
+) -> Result<Vec<EqProof>, SolveError>
+    ensures err { IsErrOf result SolveError.TooLarge → ⊥ }
+{
+    let mut implied = layers.follow(classes)?;
     let mut drafts = Vec::new(alloc);
-    for number in 0..classes.table().len() {
-        let t = TermId(number);
-        if drafts.len() < most && is_open(&has_value, classes.table(), t) {
-            if let Some(positive) = value_of(classes, t) {
-                drafts.push(explained(alloc, classes, &forest, t, positive)?)?;
-            }
+    for _ in 0..implied.len() {
+        if let Some(found) = implied.pop() {
+            drafts.push(draft_of(found)?)?;
         }
     }
-    drop(forest);
     Ok(drafts)
+}
+
+// Steps to a contradiction of the value and the other one.
+fn draft_of(implied: Implied) -> Result<EqProof, SolveError>
+    ensures err { IsErrOf result SolveError.TooLarge → ⊥ }
+{
+    let mut proof = implied.proof;
+    let literal = implied.literal;
+    contradict(&mut proof, implied.number, literal.term, literal.positive)?;
+    Ok(proof)
 }
 
 // Whether each term has a value on the trail.
@@ -61,7 +84,7 @@ fn valued(alloc: Global, course: &Course) -> Result<Vec<bool>, SolveError>
 fn is_one_implied(has_value: &[bool], classes: &Classes) -> bool {
     for number in 0..classes.table().len() {
         let t = TermId(number);
-        if is_open(has_value, classes.table(), t) && value_of(classes, t).is_some() {
+        if is_open(has_value, classes.table(), t) && has_truth_value(classes, t) {
             return true;
         }
     }
@@ -82,44 +105,10 @@ fn is_open(has_value: &[bool], table: &TermTable, t: TermId) -> bool
     }
 }
 
-// The truth value in whose class the term is.
-fn value_of(classes: &Classes, t: TermId) -> Option<bool>
+// Whether the term is of the class of a truth value.
+fn has_truth_value(classes: &Classes, t: TermId) -> bool
     requires inside { t.0 < length classes.now.terms }
-    ensures equal { (positive : Bool) → result ≡ Some positive → AreEqual classes.now t (truth_term positive) }
 {
     prove!(classes.table().len() >= 2);
-    if classes.rep(t) == classes.rep(TermId(0)) {
-        return Some(true);
-    }
-    if classes.rep(t) == classes.rep(TermId(1)) {
-        return Some(false);
-    }
-    None
-}
-
-// Steps to a contradiction of the explained value of the term and the other.
-fn explained(
-    alloc: Global,
-    classes: &Classes,
-    forest: &Forest,
-    t: TermId,
-    positive: bool,
-) -> Result<EqProof, SolveError>
-    requires equal { AreEqual classes.now t (truth_term positive) }
-    requires forest { IsForestOfClasses classes.now forest.now }
-    ensures err { IsErrOf result SolveError.TooLarge → ⊥ }
-{
-    let mut proof = EqProof {
-        steps: Vec::new(alloc),
-    };
-    let number = forest.explain(classes, t, truth(positive), &mut proof)?;
-    contradict(&mut proof, number, t, positive)?;
-    Ok(proof)
-}
-
-// The truth value as a term.
-fn truth(positive: bool) -> TermId
-    ensures value { result ≡ truth_term positive }
-{
-    if positive { TermId(0) } else { TermId(1) }
+    classes.rep(t) == classes.rep(TermId(0)) || classes.rep(t) == classes.rep(TermId(1))
 }

@@ -1,4 +1,4 @@
-//! Clauses of the theory that are kept across checks: what a search begins with, and what it leaves.
+//! Theory lemmas across checks: which ones a search begins with, and which ones it leaves.
 ghost use Rattle.std.specs.Prelude.{◌≡◌, ◌≤◌, ◌++◌, true, [], List, All, length, drop, OnOk, OnErr, IsErrOf};
 ghost use Rattle.ct_card.specs.Sizes.{AreSizes};
 ghost use Rattle.ct_terms.specs.Clause.{Clause};

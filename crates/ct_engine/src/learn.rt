@@ -1,4 +1,4 @@
-//! Conflicts: what a clause that is false in the trail teaches.
+//! Conflicts: learns from a clause that is false under the trail.
 ghost use Rattle.std.specs.Prelude.{◌≡◌, ℕ, ◌+◌, length, OnOk, IfOk, IsErrOf};
 ghost use Rattle.ct_sorts.specs.Grown.{Begins};
 ghost use Rattle.ct_congr.specs.State.{State};

@@ -1,4 +1,4 @@
-//! When a guided search begins anew: after so many conflicts as the sequence of Luby, Sinclair and Zuckerman (1993) says.
+//! When a guided search restarts: after as many conflicts as the sequence of Luby, Sinclair and Zuckerman (1993) says.
 
 // How many conflicts the sequence's 1 stands for.
 const UNIT: u64 = 64;

@@ -1,5 +1,5 @@
-//! Before the first decision: lemmas on testers and equations, and what the theory implies. A record may add any line of the
-//! theory while no decision stands.
+//! Before the first decision: adds lemmas on testers and equations, and what the theory implies. A record may add any line of
+//! the theory while there is no decision.
 ghost use Rattle.std.specs.Prelude.{◌≡◌, true, IfOk, OnOk, IsErrOf};
 ghost use Rattle.ct_engine.specs.Progress.{IsOfOneTask, IsTheoryOf, IsAsked};
 ghost use Rattle.ct_engine.specs.Opening.{IsOpening, IsBeforeDecisions};
@@ -13,17 +13,21 @@ use crate::proposal::{MOST_STEPS, propose_all};
 use crate::settle::{propagate, refute};
 use crate::testers::lemmas_on;
 use ct_card::Sizes;
+use ct_explain::Layers;
 use ct_log::Room;
 use ct_sorts::Signature;
-use ct_terms::TermId;
+use ct_terms::{TermId, TermTable};
 use ct_theory::Theory;
 use std::alloc::Global;
 
 /// So many lemmas a term are added at most.
 const MOST_LEMMAS: usize = 8;
 
-/// The theory is asked for what it implies so many times at most.
-const MOST_ROUNDS: u32 = 100;
+/// The theory is asked for what it implies so many times, and more often where terms are few, since a round may go over all of them.
+const ROUNDS: u32 = 100;
+
+/// Further rounds may go over so many terms together.
+const MOST_TERMS: u32 = 50_000_000;
 
 /// Adds lines to a search that has decided nothing.
 pub(crate) fn open_search(
@@ -95,16 +99,31 @@ fn add_implied(
     ensures err { IsErrOf result SolveError.TooLarge → ⊥ }
 {
     let mut asked = Asked::new(alloc, course.derivation.rec().table())?;
-    'rounds: for _ in 0..MOST_ROUNDS {
-        if !imply(alloc, sig, sizes, course, room, theory, &mut asked)? {
+    let mut layers = None;
+    'rounds: for _ in 0..most_rounds(course.derivation.rec().table()) {
+        if !imply(
+            alloc,
+            sig,
+            sizes,
+            course,
+            room,
+            theory,
+            &mut asked,
+            &mut layers,
+        )? {
             return Ok(());
         }
     }
     Ok(())
 }
 
-// Propagates, asks the theory, and adds what it implies. Where it contradicts the trail, this is added. Whether it
-// implied something.
+// How many times at most the theory of these terms is asked.
+fn most_rounds(table: &TermTable) -> u32 {
+    ROUNDS.saturating_add(MOST_TERMS / table.len().saturating_add(1))
+}
+
+// Propagates, asks the theory, and adds what it implies. Where it contradicts the trail, this is added. Whether a line was
+// added that makes more true.
 fn imply(
     alloc: Global,
     sig: &Signature,
@@ -113,6 +132,7 @@ fn imply(
     room: &mut Room,
     theory: &mut Theory,
     asked: &mut Asked,
+    layers: &mut Option<Layers>,
 ) -> Result<bool, SolveError>
     requires opening { IsOpening sig.now sizes.now course.old room.old }
     requires theory { IsTheoryOf course.old theory.old }
@@ -130,8 +150,8 @@ fn imply(
         add_conflict(course, conflict)?;
         return Ok(false);
     }
-    let drafts = implied_drafts(alloc, &*course, theory.classes())?;
-    let found = !drafts.is_empty();
+    let drafts = implied_drafts(alloc, &*course, theory.classes(), layers, MOST_STEPS)?;
+    let before = course.derivation.rec().lines().len();
     propose_all(alloc, sig, sizes, course, room, drafts)?;
-    Ok(found)
+    Ok(course.derivation.rec().lines().len() > before)
 }

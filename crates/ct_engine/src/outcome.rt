@@ -1,4 +1,4 @@
-//! How parts of a search end.
+//! The ways in which parts of a search end.
 
 use crate::verdict::Spent;
 use ct_acyclic::Order;

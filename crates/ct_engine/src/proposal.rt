@@ -1,4 +1,4 @@
-//! Lines of the theory that are proposed: they are added where they are accepted. So nothing is claimed of how they were found.
+//! Adds proposed lines of the theory if the checker accepts them. So nothing is claimed about how they were found.
 ghost use Rattle.std.specs.Prelude.{◌≡◌, OnOk, IsErrOf};
 ghost use Rattle.std.specs.Bool.{OnTrue};
 ghost use Rattle.ct_log.specs.Acceptance.{IsAccepted, clauses_of};

@@ -1,4 +1,4 @@
-//! Variables by how active they were in conflicts, the most active first. Nothing that is proved rests on their order.
+//! Variables ordered by their activity in conflicts, the most active first. Nothing that is proved rests on the order.
 
 use std::alloc::{AllocError, Global};
 

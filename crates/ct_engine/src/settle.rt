@@ -1,5 +1,5 @@
-//! The search: propagate, ask the theory, decide (the loop of CDCL(T); Nieuwenhuis, Oliveras and Tinelli 2006). Before a decision
-//! the theory is asked for what it finds quickly, and once every variable has a value for a full answer.
+//! The CDCL(T) loop: propagate, ask the theory, decide (Nieuwenhuis, Oliveras and Tinelli 2006). Before a decision the theory
+//! is asked for what it finds quickly, and when every variable has a value, for a full answer.
 ghost use Rattle.std.specs.Prelude.{◌≡◌, IfOk, IfSome, OnOk, IsErrOf, IsTrue, MatchOption, Some, slice_get};
 ghost use Rattle.ct_sorts.specs.Grown.{Begins};
 ghost use Rattle.ct_congr.specs.State.{State};

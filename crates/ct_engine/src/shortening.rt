@@ -1,4 +1,4 @@
-//! A refutation without the lines that its empty clause does not rest on.
+//! Trims a refutation to the lines on which its empty clause rests.
 ghost use Rattle.std.specs.Prelude.{List, IfOk, OnOk, IsErrOf};
 ghost use Rattle.ct_sorts.specs.Declarations.{Declarations};
 ghost use Rattle.ct_terms.specs.declared.ids.TermId.{TermId};

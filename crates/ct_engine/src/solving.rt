@@ -27,8 +27,8 @@ use ct_terms::{TermId, TermTable};
 use ct_theory::Theory;
 use std::alloc::Global;
 
-/// Whether assertions hold in some interpretation, by a search of at most so many decisions. The table, which is not changed,
-/// holds `true`, `false`, the assertions and their subterms.
+/// Whether assertions hold in some interpretation, by a search with at most `budget` decisions. The table, which is not
+/// changed, holds `true`, `false`, the assertions and their subterms.
 ///
 /// The search goes over the clauses of the closure of the assertions: it propagates, asks the theory of datatypes and
 /// codatatypes whether the trail may hold, learns from conflicts, and makes the lowest variable without a value false
@@ -63,8 +63,8 @@ pub fn solve(
     Ok(verdict)
 }
 
-/// As `solve`, with clauses that the theory gave in earlier checks: those of the store that are moved into the closure and
-/// accepted there stand behind the initial lines of the derivation, and the search has them from its start. The terms of the
+/// As `solve`, with theory lemmas from earlier checks: those of the store that can be moved into the closure and are
+/// accepted there follow the initial lines of the derivation, and the search has them from its start. The terms of the
 /// store are well sorted over the signature, and stay so.
 ///
 /// After `Unsat` and `Unknown` the store has taken the further clauses of the theory in the derivation, in order, up to the first

@@ -1,7 +1,7 @@
-//! The searches of one check, one after the other, over one derivation. First comes a recorded one; where its decisions are
-//! spent and more are allowed, a guided one, whose moves nobody asks for; and where that too has spent them a recorded one anew,
-//! which begins with the short clauses that the others learned. A model needs no record, nor does a derivation: the order of
-//! decisions is free until a record is owed.
+//! The searches of one check, one after the other, over one derivation. The first is recorded. If its decisions are spent and
+//! more are allowed, a guided one follows, whose moves are not recorded. If that one spends its decisions too, a second
+//! recorded one follows, which begins with the short clauses that the others learned. Neither a model nor a derivation needs a
+//! record: the order of decisions is free until a record is owed.
 ghost use Rattle.std.specs.Prelude.{◌≡◌, true, IfOk, OnOk, IsErrOf, MatchOption};
 ghost use Rattle.ct_engine.specs.Progress.{IsUnderWay, IsTheoryOf, IsEnded, IsOnRecord, IsOfOneClosure};
 ghost use Rattle.ct_engine.specs.Keeping.{AddsFirst, HasFirst};

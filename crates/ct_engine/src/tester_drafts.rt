@@ -1,4 +1,4 @@
-//! The steps of lemmas on testers and equations. A draft without steps says that there is nothing to say.
+//! The equality steps of lemmas on testers and equations. A draft without steps means that there is no lemma.
 ghost use Rattle.std.specs.Prelude.{IsErrOf};
 ghost use Rattle.ct_sorts.specs.Declarations.{IsConstructor};
 

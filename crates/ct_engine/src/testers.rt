@@ -1,6 +1,6 @@
-//! Lemmas on testers and equations: two testers of a term exclude each other; a term that equals a constructor term has the
-//! tester of its constructor and no other; and terms that are equal have the same testers. A search finds each of them by a
-//! conflict of the theory, mostly many times under other decisions; said before the first decision they propagate.
+//! Lemmas on testers and equations: two testers of a term exclude each other; a term that equals a constructor term satisfies
+//! the tester of its constructor and no other; equal terms satisfy the same testers. A search would find each of them as a
+//! conflict of the theory, usually many times under different decisions. Added before the first decision, they propagate.
 ghost use Rattle.std.specs.Prelude.{All, IsErrOf};
 ghost use Rattle.ct_sorts.specs.Declarations.{IsConstructor};
 

@@ -1,4 +1,4 @@
-//! What follows from the definitions alone.
+//! Theorems about the definitions alone.
 ghost use Rattle.std.specs.Prelude.{◌↔◌, ℕ, suc, ◌<◌, ◌≤◌, ◌^◌, List};
 ghost use Rattle.ct_sorts.specs.Declarations.{Declarations};
 ghost use Rattle.ct_terms.specs.declared.ids.TermId.{TermId};
@@ -14,7 +14,7 @@ ghost use Rattle.ct_engine.specs.Verdict.{IsVerdict, IsDecisive};
 
 use crate::facts;
 
-/// The theorem on searches that spent their decisions, for whoever relies on their records. The function does nothing.
+/// Theorems on searches that spent their decisions, for users of their records. The function does nothing.
 ///
 /// A search over a closure with V propositional variables that needs another decision has made fewer than 2^V - 1: where it
 /// backs up, the string of its decisions and of what follows from them rises.

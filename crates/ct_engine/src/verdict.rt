@@ -1,4 +1,4 @@
-//! What a check answers.
+//! The verdict of a check.
 
 use ct_eval::Interp;
 use ct_log::Derivation;

@@ -1,4 +1,4 @@
-//! The steps of a line to equations.
+//! The steps of a line up to an equation.
 
 use ct_log::EqStep;
 

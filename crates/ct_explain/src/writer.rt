@@ -1,4 +1,4 @@
-//! Steps that are written after others, each with the equation that it states.
+//! Appends steps, each with the equation that it gives.
 ghost use Rattle.std.specs.Prelude.{◌≡◌, ◌<◌, ◌^◌, [], IfOk, OnOk, length};
 ghost use Rattle.ct_terms.specs.declared.ids.TermId.{TermId};
 ghost use Rattle.ct_congr.specs.State.{State};

@@ -1,4 +1,4 @@
-//! The turns to an answer, and marking the classes that nothing contradicts.
+//! The turns up to an answer, and setting a mark on classes without a contradiction.
 ghost use Rattle.std.specs.Prelude.{◌≡◌, ℕ, List, Contains, IfOk, OnOk};
 ghost use Rattle.ct_sorts.specs.Declarations.{Declarations};
 ghost use Rattle.ct_terms.specs.declared.ids.TermId.{TermId};

@@ -1,4 +1,4 @@
-//! What is kept beside the classes of a theory, so that a conflict costs what is new.
+//! What is cached beside the classes of a theory, so that a conflict costs only what is new.
 ghost use Rattle.std.specs.Prelude.{◌≡◌, ◌≤◌, ◌++◌, List, length, take, IfOk};
 ghost use Rattle.ct_congr.specs.declared.merge.Merge.{Merge};
 ghost use Rattle.ct_congr.specs.State.{State};

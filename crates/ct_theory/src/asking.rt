@@ -1,4 +1,4 @@
-//! Asking the theory whether literals may hold together.
+//! Asks the theory whether literals are consistent.
 ghost use Rattle.std.specs.Prelude.{◌≡◌, [], Contains, IfOk, IfSome, OnOk};
 ghost use Rattle.ct_terms.specs.declared.ids.Lit.{Lit};
 ghost use Rattle.ct_terms.specs.Literal.{IsStripped};
@@ -93,10 +93,10 @@ impl Theory {
         Ok(theory)
     }
 
-    /// Whether the literals may hold together, by the rules of the theory: the classes of terms are closed under the rules, and
-    /// while bisimilar classes are left two of them are made one. Each literal is over a Boolean term of the table that is no
-    /// negation. So many first literals are those of the last question; of fewer the answer is as good, but may cost more. The
-    /// only error is out of memory; after it the theory is to be dropped.
+    /// Whether the literals are consistent in the theory: closes the classes of terms under the rules, and while
+    /// bisimilar classes are left makes two of them one. Each literal is over a Boolean term of the table that is no
+    /// negation. So many first literals are those of the last question; of fewer the answer is as good, but may cost
+    /// more. The only error is out of memory; after it the theory is to be dropped.
     pub fn consult(&mut self, literals: &[Lit], shared: usize) -> Result<Consulted, TheoryError>
         requires ready { IsReady self.old }
         requires shared { HaveInCommon shared self.old.hypotheses literals.now }
@@ -122,10 +122,10 @@ impl Theory {
         Ok(answer)
     }
 
-    /// A contradiction among the literals, if a quick look finds one: it applies the rules, and looks for cycles and for
-    /// bisimilar classes where terms that can form these have become equal. None says nothing. Each literal is over a Boolean
-    /// term of the table that is no negation. So many first literals are those of the last question. The only error is out of
-    /// memory; after it the theory is to be dropped.
+    /// A contradiction among the literals, if a quick look finds one: applies the rules, and looks for cycles and
+    /// bisimilar classes if terms that can form these have become equal. None says nothing. Each literal is over a
+    /// Boolean term of the table that is no negation. So many first literals are those of the last question. The only
+    /// error is out of memory; after it the theory is to be dropped.
     pub fn refute(
         &mut self,
         literals: &[Lit],
@@ -163,7 +163,7 @@ impl Theory {
         &self.classes
     }
 
-    /// The same, to be kept.
+    /// The same, by value.
     pub fn into_classes(self) -> Box<Classes>
         ensures value { result.value ≡ self }
     {

@@ -1,4 +1,4 @@
-//! Conflicts: what contradicts itself in closed classes, as a line of the theory.
+//! Conflicts: a contradiction in closed classes, as a line of the theory.
 ghost use Rattle.std.specs.Prelude.{◌<◌, [], length, Contains, IfOk, OnOk};
 ghost use Rattle.ct_terms.specs.declared.ids.Lit.{Lit};
 ghost use Rattle.ct_terms.specs.Literal.{IsStripped};

@@ -1,4 +1,4 @@
-//! The conflict of a cycle through constructor terms of datatypes: each hop of it is explained.
+//! The conflict of a cycle through constructor terms of datatypes: each of its edges is explained.
 ghost use Rattle.std.specs.Prelude.{◌≡◌, ◌<◌, List, [], length, Contains, IfOk, OnOk, Some, slice_get};
 ghost use Rattle.ct_sorts.specs.declared.ids.CtorId.{CtorId};
 ghost use Rattle.ct_terms.specs.declared.ids.TermId.{TermId};

@@ -1,4 +1,4 @@
-//! Tables of terms whose constructor terms all have finite values: there bisimilar classes are one already.
+//! Tables in which all constructor terms have finite values: bisimilar classes are already equal there.
 ghost use Rattle.std.specs.Prelude.{◌≡◌, ◌<◌, ◌⊎◌, List, [], Some, length, slice_get, IsTrue, true};
 ghost use Rattle.ct_sorts.specs.declared.ids.CtorId.{CtorId};
 ghost use Rattle.ct_sorts.specs.declared.ids.SortId.{SortId};

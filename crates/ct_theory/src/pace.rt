@@ -1,4 +1,4 @@
-//! When a conflict is explained a second time: not for a while after second explanations that brought nothing.
+//! When a conflict is explained a second time: not for a while after second explanations that were no shorter.
 
 // No second explanation is tried of so many first conflicts, since the classes for it have to be made.
 const FIRST: u32 = 50;
@@ -11,7 +11,7 @@ const LONGEST: u32 = 1023;
 pub(crate) struct Pace {
     // For how many conflicts more nothing is tried.
     waiting: u32,
-    // For how many it was not tried after the last second explanation, if that brought nothing.
+    // How many conflicts the pause after the last second explanation lasts: none where it was shorter.
     pause: u32,
 }
 

@@ -1,4 +1,4 @@
-//! A question that costs what is new: the rules are applied, and the classes marked where these contradict nothing.
+//! A question that costs only what is new: the rules are applied, and the classes are marked if there is no contradiction.
 ghost use Rattle.std.specs.Prelude.{◌≡◌, Contains, IfOk, IfSome, OnOk, MatchOption};
 ghost use Rattle.ct_terms.specs.declared.ids.Lit.{Lit};
 ghost use Rattle.ct_terms.specs.Literal.{IsStripped};

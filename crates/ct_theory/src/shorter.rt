@@ -1,5 +1,5 @@
-//! A second conflict of literals, from classes that were told all of them at once. Classes that were told them one by one, each
-//! after the consequences of those before, explain some conflicts by far more literals.
+//! A second conflict among literals, from classes that received all of them at once. Classes that received them one by one,
+//! each after the consequences of those before, explain some conflicts with many more literals.
 ghost use Rattle.std.specs.Prelude.{◌≡◌, Contains, IfOk, OnOk};
 ghost use Rattle.ct_terms.specs.declared.ids.Lit.{Lit};
 ghost use Rattle.ct_terms.specs.Literal.{IsStripped};

@@ -1,4 +1,4 @@
-//! Bringing classes from the literals that they were told to others: going back, and telling the rest.
+//! Moves classes from one list of literals to another: goes back, and adds the rest.
 ghost use Rattle.std.specs.Prelude.{◌≡◌, ◌≤◌, ◌++◌, ◌∷◌, [], ℕ, length, slice_get, Contains, IfOk, IfSome, OnOk};
 ghost use Rattle.ct_sorts.specs.Grown.{Begins};
 ghost use Rattle.ct_terms.specs.declared.ids.TermId.{TermId};

@@ -1,4 +1,4 @@
-//! One turn of asking the theory: close the classes, look for a contradiction, and make two bisimilar classes one.
+//! One turn of asking the theory: close the classes, look for a contradiction, and merge two bisimilar classes.
 ghost use Rattle.std.specs.Prelude.{◌≡◌, ℕ, List, Contains, IfOk, OnOk};
 ghost use Rattle.ct_sorts.specs.Declarations.{Declarations};
 ghost use Rattle.ct_terms.specs.declared.ids.TermId.{TermId};

@@ -1,4 +1,4 @@
-//! A walk over classes of datatypes that sees whether one lies under itself: a rule of thumb, with which nothing is claimed.
+//! A walk over classes of datatypes that notices whether one is under itself. It is a heuristic about which nothing is claimed.
 ghost use Rattle.std.specs.Prelude.{◌<◌, length};
 ghost use Rattle.std.specs.Bool.{OnTrue};
 
@@ -16,7 +16,8 @@ pub(crate) struct Walk {
     marks: Vec<u64>,
     // The mark of classes under which the walk is. That of those that it is done with is one more.
     under: u64,
-    // Classes under which the walk is, with their constructor terms and how many arguments of these are left.
+    // Classes under which the walk is, with their constructor terms and how many arguments of these are left. A class without a
+    // constructor term has nothing below, so the walk is done with it as soon as it meets it.
     stack: Vec<(TermId, TermId, usize)>,
 }
 
@@ -36,6 +37,11 @@ impl Walk {
         if self.under < u64::MAX - 2 {
             self.under += 2;
         }
+    }
+
+    // The mark of classes that the walk is done with.
+    fn done(&self) -> u64 {
+        self.under.saturating_add(1)
     }
 
     fn mark(&self, t: TermId) -> u64 {
@@ -90,11 +96,7 @@ fn advance(classes: &Classes, walk: &mut Walk) -> Result<Step, TheoryError> {
         return Ok(Step::Done);
     };
     if left == 0 {
-        let done = if walk.under < u64::MAX {
-            walk.under + 1
-        } else {
-            0
-        };
+        let done = walk.done();
         walk.set(class, done);
         return Ok(Step::On);
     }
@@ -118,10 +120,13 @@ fn meet(classes: &Classes, walk: &mut Walk, t: TermId) -> Result<Step, TheoryErr
     if mark > walk.under {
         return Ok(Step::On);
     }
+    let Some(con) = classes.con_of(t) else {
+        let done = walk.done();
+        walk.set(class, done);
+        return Ok(Step::On);
+    };
     walk.set(class, walk.under);
-    if let Some(con) = classes.con_of(t) {
-        walk.stack.push((class, con, arguments(classes, con)))?;
-    }
+    walk.stack.push((class, con, arguments(classes, con)))?;
     Ok(Step::On)
 }
 

@@ -1,4 +1,4 @@
-//! Which merges can close a cycle or make classes bisimilar: a rule of thumb by sorts, with which nothing is claimed.
+//! Which merges can close a cycle or make classes bisimilar: a heuristic by sorts, about which nothing is claimed.
 ghost use Rattle.std.specs.Prelude.{◌≡◌, ◌<◌, length};
 
 use crate::error::TheoryError;
