@@ -99,11 +99,11 @@ unfound r v e n = ap (λ (o : Option (ℕ × SortId)). is_some o) (sym e) ∙ un
 
 pub application-operator : (d : Declarations) (scope : List Variable) (name : List ℕ) (ps : Parts) (o : CoreOperator) → is_some (find scope name) ≡ false → operator_of name ≡ Some o → application d scope name ps ≡ unless_halted (takes o (count ps)) wrong_count (operated d scope o ps)
 application-operator d scope name ps o none is =
-    ap (λ b. unless_halted (not b) unknown_symbol (global d scope (operator_of name) (symbol_of d name) ps)) none ∙ ap (λ x. global d scope x (symbol_of d name) ps) is
+    ap (λ b. unless_halted (not b) unknown_symbol (global d scope name (operator_of name) (symbol_of d name) ps)) none ∙ ap (λ x. global d scope name x (symbol_of d name) ps) is
 
-pub application-global : (d : Declarations) (scope : List Variable) (name : List ℕ) (ps : Parts) → is_some (find scope name) ≡ false → operator_of name ≡ None → application d scope name ps ≡ global d scope None (symbol_of d name) ps
+pub application-global : (d : Declarations) (scope : List Variable) (name : List ℕ) (ps : Parts) → is_some (find scope name) ≡ false → operator_of name ≡ None → application d scope name ps ≡ global d scope name None (symbol_of d name) ps
 application-global d scope name ps none is =
-    ap (λ b. unless_halted (not b) unknown_symbol (global d scope (operator_of name) (symbol_of d name) ps)) none ∙ ap (λ x. global d scope x (symbol_of d name) ps) is
+    ap (λ b. unless_halted (not b) unknown_symbol (global d scope name (operator_of name) (symbol_of d name) ps)) none ∙ ap (λ x. global d scope name x (symbol_of d name) ps) is
 
 -- a list at the head of a list
 pub qualified-tester : (d : Declarations) (scope : List Variable) (w : Part) (head ps : Parts) → is_word (codes "_") w ≡ true → qualified d scope (with_part w head) ps ≡ and_then (step (tester d head)) (λ k. tested_term d scope k ps)

@@ -19,11 +19,11 @@ use Rattle.ct_formulas.specs.declared.tree.Quantifier.TheVariants.{Forall, Exist
 use Rattle.ct_names.specs.declared.operator.CoreOperator.{CoreOperator}
 use Rattle.ct_names.specs.Refusals.{unknown_symbol, wrong_count, wrong_sort, out_of_scope}
 use Rattle.ct_names.specs.Outcome.{Sorted, and_then, unless_refused, step, refused, is_sort}
-use Rattle.ct_names.specs.Symbols.{symbol_of, operator_of, result_sort}
+use Rattle.ct_names.specs.Symbols.{symbol_of, operator_of, tester_named, result_sort}
 use Rattle.ct_names.specs.Variables.{Variable, ScopeIn, find, variable_sorts}
 use Rattle.ct_names.specs.Forms.{is_word, are_attributes}
 use Rattle.ct_names.specs.Parts.{Part, Parts, atom_part, list_part, no_parts, with_part, count, name_of}
-use Rattle.ct_names.specs.Elaboration.{meaning_of_part, takes, operated, applied_symbol, global, application, let_form, match_form, quantified_form, annotated, lone_symbol, may_qualify, of_instance, of_result, qualified_name, qualified_symbol, tester, tested_term, qualified, reserved, headed, list_meaning, part_of, parts_of, elaborated}
+use Rattle.ct_names.specs.Elaboration.{meaning_of_part, takes, operated, applied_symbol, global, application, let_form, match_form, quantified_form, annotated, lone_symbol, may_qualify, of_instance, of_result, qualified_name, qualified_symbol, tester, tested_term, tested_by_name, qualified, reserved, headed, list_meaning, part_of, parts_of, elaborated}
 use Rattle.ct_names.specs.Sorts.{sort_of_part}
 use Rattle.ct_names.proofs.LastingLemmas.{symbol_inside}
 use Rattle.ct_names.proofs.NeedLemmas.{grows_itself}
@@ -169,17 +169,21 @@ module _ (d : Declarations) (theorems : Theorems d) where
         by_let true f = let_sound ps sound t f
         by_let false f = by_match (bytes_eq w (codes "match")) f
 
-    global_sound : (o : Option CoreOperator) (name : List ℕ) (s : Option Symbol) → symbol_of d name ≡ s → (ps : Parts) → AreSoundParts d ps → (t : Sorted) → global d scope o s ps ≡ Ok t → HasOwnSort d (variable_sorts scope) t
+    by_name_sound : (k : Option NamedCtor) (ps : Parts) → AreSoundParts d ps → (t : Sorted) → tested_by_name d scope k ps ≡ Ok t → HasOwnSort d (variable_sorts scope) t
+    by_name_sound None ps sound t e = absurd cc
+    by_name_sound (Some k) ps sound t e = tested_term_sound d theorems scope inside k ps sound t e
+
+    global_sound : (o : Option CoreOperator) (name : List ℕ) (s : Option Symbol) → symbol_of d name ≡ s → (ps : Parts) → AreSoundParts d ps → (t : Sorted) → global d scope name o s ps ≡ Ok t → HasOwnSort d (variable_sorts scope) t
     global_sound (Some o) name s is ps sound t e =
         let enough = halted-inverse (takes o (count ps)) wrong_count (operated d scope o ps) t e in
         operated_sound d theorems scope inside o ps sound enough.0 t enough.1
-    global_sound None name None is ps sound t e = absurd cc
+    global_sound None name None is ps sound t e = by_name_sound (tester_named d name) ps sound t e
     global_sound None name (Some s) is ps sound t e = symbol_sound s (named_inside name s is) ps sound t e
 
     application_sound : (name : List ℕ) (ps : Parts) → AreSoundParts d ps → (t : Sorted) → application d scope name ps ≡ Ok t → HasOwnSort d (variable_sorts scope) t
     application_sound name ps sound t e =
         global_sound (operator_of name) name (symbol_of d name) refl ps sound t
-        (halted-inverse (not (is_some (find scope name))) unknown_symbol (global d scope (operator_of name) (symbol_of d name) ps) t e).1
+        (halted-inverse (not (is_some (find scope name))) unknown_symbol (global d scope name (operator_of name) (symbol_of d name) ps) t e).1
 
     headed_sound : (a : Atom) (ps : Parts) → AreSoundParts d ps → (t : Sorted) → headed d scope a ps ≡ Ok t → HasOwnSort d (variable_sorts scope) t
     headed_sound (symbol w) ps sound t e = by (is_reserved w) e

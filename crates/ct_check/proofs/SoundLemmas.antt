@@ -13,7 +13,8 @@ use Rattle.ct_formulas.specs.FormulaSorts.{IsSorted, AllSorted, AreOfSort, HasFo
 use Rattle.ct_names.specs.declared.operator.CoreOperator.{CoreOperator}
 use Rattle.ct_names.specs.Refusals.{wrong_count}
 use Rattle.ct_names.specs.Outcome.{Elaborated, Sorted, and_then, of_sort}
-use Rattle.ct_names.specs.Symbols.{symbol_of, operator_of, argument_sorts, result_sort, symbol_applied}
+use Rattle.ct_instances.specs.declared.among.NamedCtor.{NamedCtor}
+use Rattle.ct_names.specs.Symbols.{symbol_of, operator_of, tester_named, argument_sorts, result_sort, symbol_applied}
 use Rattle.ct_names.specs.Variables.{Variable, ScopeIn, is_named, find_from, find, variable_sorts}
 use Rattle.ct_names.specs.Parts.{Part, Parts, atom_part, list_part, no_parts, with_part, count}
 use Rattle.ct_names.specs.Elaboration.{lone, lone_name, lone_global, unless_for, lone_symbol, lone_operator, meaning_of_part, arguments, all_of_sort}
@@ -84,12 +85,13 @@ module _ (d : Declarations) (theorems : Theorems d) where
   lone_symbol_sound env (GenCtor g i) inside t e = absurd cc
   lone_symbol_sound env (GenSel g i k) inside t e = absurd cc
 
-  operator_refused : (o : Option CoreOperator) (t : Sorted) → lone_operator o ≡ Ok t → ⊥
-  operator_refused None t e = cc
-  operator_refused (Some o) t e = cc
+  operator_refused : (o : Option CoreOperator) (k : Option NamedCtor) (t : Sorted) → lone_operator o k ≡ Ok t → ⊥
+  operator_refused None None t e = cc
+  operator_refused None (Some k) t e = cc
+  operator_refused (Some o) k t e = cc
 
   lone_global_sound : (env : List SortId) (name : List ℕ) (s : Option Symbol) → symbol_of d name ≡ s → (t : Sorted) → lone_global d name s ≡ Ok t → HasOwnSort d env t
-  lone_global_sound env name None is t e = absurd (operator_refused (operator_of name) t e)
+  lone_global_sound env name None is t e = absurd (operator_refused (operator_of name) (tester_named d name) t e)
   lone_global_sound env name (Some s) is t e = lone_symbol_sound env s (symbol_inside d d (grows_itself d) theorems.consistent name s is) t e
 
   lone_name_sound : (scope : List Variable) (name : List ℕ) (v : Option (ℕ × SortId)) → find scope name ≡ v → (t : Sorted) → lone_name d name v ≡ Ok t → HasOwnSort d (variable_sorts scope) t

@@ -1,4 +1,4 @@
-//! What stands at the head with its arguments, whose sorts were expected.
+//! The head of a list with its arguments, whose sorts were expected.
 ghost use Rattle.std.specs.Prelude.{◌≡◌, ◌∷◌, [], MatchOption, Ok, Err, IfOk, IfErr};
 ghost use Rattle.ct_sorts.specs.Declarations.{Declarations};
 ghost use Rattle.ct_sorts.specs.Grown.{Extends};

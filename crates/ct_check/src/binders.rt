@@ -1,4 +1,4 @@
-//! What `let` and `match` do before and after their terms.
+//! What `let` and `match` do before and after their terms are elaborated.
 ghost use Rattle.std.specs.Prelude.{◌≡◌, ℕ, ◌++◌, ◌∷◌, [], Option, Some, List, map, IfOk, IfErr, OnOk};
 ghost use Rattle.ct_sexpr.specs.View.{expressions_of};
 ghost use Rattle.ct_sorts.specs.Declarations.{Declarations};

@@ -1,4 +1,4 @@
-//! What takes arguments of stated sorts: symbols, testers and connectives.
+//! What takes arguments of fixed sorts: symbols, testers and connectives.
 ghost use Rattle.std.specs.Prelude.{◌≡◌, ◌==◌, replicate, IfOk, IfErr};
 ghost use Rattle.ct_names.specs.Symbols.{argument_sorts};
 ghost use Rattle.ct_names.specs.Elaboration.{takes};

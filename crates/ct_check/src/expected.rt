@@ -1,4 +1,4 @@
-//! Which sorts the arguments of what stands at the head are to have, one after the other.
+//! The sorts that the arguments of the head of a list must have, one after the other.
 ghost use Rattle.std.specs.Prelude.{◌≡◌, Option, drop, IfOk};
 ghost use Rattle.ct_sorts.specs.declared.ids.SortId.{SortId};
 ghost use Rattle.ct_sorts.specs.Declarations.{Declarations, IsSort, bool_sort};

@@ -1,4 +1,4 @@
-//! What stands at the head of a list: a form, an operator, a symbol or a tester.
+//! The head of a list: a form, an operator, a symbol or a tester.
 ghost use Rattle.std.specs.Prelude.{◌≡◌, ℕ, List, length, None, IfOk};
 ghost use Rattle.std.specs.Str.{bytes_eq};
 ghost use Rattle.ct_sexpr.specs.Atom.{symbol};
@@ -13,11 +13,11 @@ ghost use Rattle.ct_names.specs.Answer.{StopsAt, as_it_is};
 ghost use Rattle.ct_names.specs.declared.needs.Needs.{Needs};
 ghost use Rattle.ct_names.specs.declared.needs.Needs.TheVariants.{Find};
 ghost use Rattle.ct_names.specs.Needs.{Reaches};
-ghost use Rattle.ct_names.specs.Elaboration.{part_of, parts_of, list_meaning, reserved, application, qualified, qualified_symbol, tester, headed, is_text_of_name, may_qualify, takes, operated, global, applied_symbol, applied_plain, tested_term, generic_ctor, of_result, is_of_bool, lone_symbol};
+ghost use Rattle.ct_names.specs.Elaboration.{part_of, parts_of, list_meaning, reserved, application, qualified, qualified_symbol, tester, headed, is_text_of_name, may_qualify, takes, operated, global, applied_symbol, applied_plain, tested_term, tested_by_name, generic_ctor, of_result, lone_symbol};
 ghost use Rattle.ct_names.specs.Parts.{with_part, no_parts, name_of, count};
 ghost use Rattle.ct_names.specs.Outcome.{and_then, unless_halted, step};
 ghost use Rattle.ct_names.specs.Refusals.{wrong_count};
-ghost use Rattle.ct_names.specs.Symbols.{symbol_of};
+ghost use Rattle.ct_names.specs.Symbols.{symbol_of, tester_named};
 ghost use Rattle.ct_names.specs.Variables.{Variable};
 ghost use Rattle.ct_check.specs.GenericTerms.{IsPartDeclared, part as part_term};
 ghost use Rattle.ct_check.specs.Heads.{headed_by, HasCount, IsHeadDeclared, LeadsTo};
@@ -28,8 +28,8 @@ use ct_formulas::Quantifier;
 use ct_instances::{NamedCtor, ctor_among};
 use ct_names::{
     CoreOperator, Needs, OUT_OF_SCOPE, Stop, UNDETERMINED, UNKNOWN_SYMBOL, Variables, WRONG_COUNT,
-    WRONG_SORT, argument_count, ctor_named, is_word, name_of, named_sort, operator_of, result_sort,
-    symbol_named,
+    WRONG_SORT, argument_count, ctor_named, is_of_bool, is_word, name_of, named_sort, operator_of,
+    result_sort, symbol_named, tester_named,
 };
 use ct_sexpr::{Sexpr, is_reserved};
 use ct_sorts::{GenId, Signature, SortId, Symbol};
@@ -202,13 +202,27 @@ fn name_head(sig: &Signature, variables: &Variables, name: &[u8], args: usize) -
 // A name that is no variable and no operator at the head of a list, with so many arguments.
 fn global_head(sig: &Signature, name: &[u8], args: usize) -> Result<Head, Stop>
     ensures value { (needs : Needs) (scope : List Variable) (es : Expressions) → count (parts_of sig.now es) ≡ args
-        → LeadsTo needs sig.now (λ d. global d scope None (symbol_of d name.now) (parts_of d es)) (λ d h. headed_by d scope h (parts_of d es)) result }
+        → LeadsTo needs sig.now (λ d. global d scope name.now None (symbol_of d name.now) (parts_of d es)) (λ d h. headed_by d scope h (parts_of d es)) result }
     ensures inside { IfOk result (IsHeadDeclared sig.now) }
     ensures counted { IfOk result (λ h. HasCount sig.now h args) }
 {
     prove!(sig.sorts() > 0);
     match symbol_named(sig, name) {
         Some(symbol) => symbol_head(sig, symbol, args),
+        None => named_tester_head(sig, name, args),
+    }
+}
+
+// A name that is no variable, no operator and no symbol at the head of a list, with so many arguments: `is-C`.
+fn named_tester_head(sig: &Signature, name: &[u8], args: usize) -> Result<Head, Stop>
+    ensures value { (needs : Needs) (scope : List Variable) (es : Expressions) → count (parts_of sig.now es) ≡ args
+        → LeadsTo needs sig.now (λ d. tested_by_name d scope (tester_named d name.now) (parts_of d es)) (λ d h. headed_by d scope h (parts_of d es)) result }
+    ensures inside { IfOk result (IsHeadDeclared sig.now) }
+    ensures counted { IfOk result (λ h. HasCount sig.now h args) }
+{
+    prove!(sig.sorts() > 0);
+    match tester_named(sig, name) {
+        Some(ctor) => tester_head(ctor, args),
         None => Err(Stop::Refused(UNKNOWN_SYMBOL)),
     }
 }
@@ -388,16 +402,6 @@ fn tester_of(sig: &Signature, word: &Sexpr, ctor: &Sexpr) -> Result<NamedCtor, S
         return Err(Stop::Refused(OUT_OF_SCOPE));
     }
     Ok(ctor)
-}
-
-// Whether the constructor is `true` or `false`.
-fn is_of_bool(ctor: NamedCtor) -> bool
-    ensures value { result ≡ is_of_bool ctor }
-{
-    match ctor {
-        NamedCtor::Plain(c) => c.0 <= 1,
-        NamedCtor::Generic(_, _) => false,
-    }
 }
 
 // Whether the expression is this name.

@@ -1,19 +1,20 @@
-//! Names that stand alone.
-ghost use Rattle.std.specs.Prelude.{◌≡◌};
+//! Names without arguments.
+ghost use Rattle.std.specs.Prelude.{◌≡◌, Err};
 ghost use Rattle.ct_sexpr.specs.View.{expression_of};
 ghost use Rattle.ct_sorts.specs.Lookup.{IsSymbol};
 ghost use Rattle.ct_names.specs.declared.needs.Needs.{Needs};
 ghost use Rattle.ct_names.specs.Answer.{StopsAt};
 ghost use Rattle.ct_names.specs.Parts.{name_of};
-ghost use Rattle.ct_names.specs.Symbols.{symbol_of};
-ghost use Rattle.ct_names.specs.Elaboration.{part_of, lone, lone_global, lone_symbol, lone_refusal};
+ghost use Rattle.ct_names.specs.Outcome.{refused};
+ghost use Rattle.ct_names.specs.Symbols.{symbol_of, operator_of, tester_named};
+ghost use Rattle.ct_names.specs.Elaboration.{part_of, lone, lone_global, lone_operator, lone_symbol, lone_refusal};
 ghost use Rattle.ct_check.specs.Trees.{sorted_of};
 
 use crate::trees::symbol_tree;
 use ct_formulas::Tree;
 use ct_names::{
     OUT_OF_SCOPE, Stop, UNDETERMINED, UNKNOWN_SYMBOL, Variables, WRONG_COUNT, argument_count,
-    name_of, operator_of, result_sort, symbol_named,
+    name_of, operator_of, result_sort, symbol_named, tester_named,
 };
 use ct_sexpr::Sexpr;
 use ct_sorts::{Signature, SortId, Symbol};
@@ -45,9 +46,19 @@ fn lone_global(alloc: Global, sig: &Signature, name: &[u8]) -> Result<(Tree, Sor
 {
     match symbol_named(sig, name) {
         Some(symbol) => lone_symbol(alloc, sig, symbol),
-        None => match operator_of(name) {
-            Some(_) => Err(Stop::Refused(WRONG_COUNT)),
-            None => Err(Stop::Refused(UNKNOWN_SYMBOL)),
+        None => Err(Stop::Refused(other_refusal(sig, name))),
+    }
+}
+
+// With which error a name is refused that is no variable and no symbol: operators and testers take arguments.
+fn other_refusal(sig: &Signature, name: &[u8]) -> u16
+    ensures value { lone_operator (operator_of name.now) (tester_named sig.now name.now) ≡ Err (refused result) }
+{
+    match operator_of(name) {
+        Some(_) => WRONG_COUNT,
+        None => match tester_named(sig, name) {
+            Some(_) => WRONG_COUNT,
+            None => UNKNOWN_SYMBOL,
         },
     }
 }

@@ -1,4 +1,4 @@
-//! What quantifiers do before and after their bodies.
+//! What quantifiers do before and after their bodies are elaborated.
 ghost use Rattle.std.specs.Prelude.{◌≡◌, List, map, length, IfOk, IfErr, OnOk};
 ghost use Rattle.ct_sexpr.specs.Expression.{Expression};
 ghost use Rattle.ct_sexpr.specs.View.{expression_of, expressions_of};

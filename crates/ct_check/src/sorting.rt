@@ -26,10 +26,10 @@ use std::alloc::Global;
 /// The number of the error of too many declarations.
 const TOO_MANY: u16 = 16;
 
-/// The sort that an expression writes (SMT-LIB 2.7, section 3.5), which comes into the list with all that it needs where it is
-/// not there. By place it is refused with 28 where the expression has no form of a sort, with 12 at an unknown name and with 22
-/// at a wrong number of arguments; and then with 16 where there is no room for the sort and all that it needs. After an error
-/// the declarations are as they were.
+/// The sort that an expression writes (SMT-LIB 2.7, section 3.5); if it is not in the list, it is added with everything
+/// that it needs. By place it is refused with 28 where the expression has no form of a sort, with 12 at an unknown name
+/// and with 22 at a wrong number of arguments; and then with 16 where there is no room for the sort and all that it
+/// needs. After an error the declarations are as they were.
 pub fn sort_of(alloc: Global, scope: &mut Scope, expr: &Sexpr) -> Result<SortId, CheckError>
     ensures ok { IfOk result (λ s. ComesTo (λ d. sort_of d (expression_of expr.now)) scope.old.sig scope.new.sig (Ok s)) }
     ensures refused { (n : ℕ) → IsErrOf result (CheckError.Refused n) → ComesTo (λ d. sort_of d (expression_of expr.now)) scope.old.sig scope.new.sig (Err n) }
@@ -91,7 +91,7 @@ pub fn elaborate(
     }
 }
 
-/// The same over declarations that stay as they are: it is refused with 28 where it needs a sort that is not there.
+/// The same over declarations that stay as they are: refused with 28 if a sort is needed that does not exist.
 pub fn elaborate_there(
     alloc: Global,
     scope: &mut Scope,

@@ -14,7 +14,7 @@ ghost use Rattle.ct_names.specs.Variables.{Variable, variable_sorts};
 use ct_formulas::formulas;
 use ct_sorts::{shapes, structure};
 
-/// The theorems on elaboration, for whoever speaks of its formulas. The function does nothing.
+/// Theorems on elaborated formulas. The function does nothing.
 ///
 /// Over consistent declarations the formula of an expression is well sorted where its variables have
 /// their sorts, and so it names declared definitions alone.

@@ -1,5 +1,6 @@
 -- Where sorts were added, what names and numbers stand for is as it was.
 use Rattle.std.proofs.Common.{◌≡◌, ℕ, zero, suc, ◌<◌, ◌==◌, Bool, true, false, if◌then◌else◌, List, [], ◌∷◌, ◌++◌, length, map, take, Ok, slice_get, position, unwrap_or, option_map, Option, Some, None, refl, sym, ◌∙◌, ap, ap₂, subst, arith, length-append}
+use Rattle.std.specs.Prelude.{drop, codes}
 use Rattle.std.specs.Option.{option_and_then}
 use Rattle.std.specs.Str.{bytes_eq}
 use Rattle.std.specs.List.{range_with_len, list_all, list_any}
@@ -29,7 +30,7 @@ use Rattle.ct_instances.specs.Among.{origin_of, is_head, is_instance, nth_ctor, 
 use Rattle.ct_instances.specs.Fields.{generic_fields, generic_params, occurs, is_determined}
 use Rattle.ct_names.specs.Patterns.{sort_ctors}
 use Rattle.ct_names.specs.Sorts.{there, sort_there}
-use Rattle.ct_names.specs.Symbols.{or_other, beside, symbol_of, as_ctor, ctor_named, field_sort_id, ctor_field_sorts, ctor_sort, sel_argument, argument_sorts, result_sort}
+use Rattle.ct_names.specs.Symbols.{or_other, beside, symbol_of, as_ctor, ctor_named, is_of_bool, unless_of_bool, tester_named, field_sort_id, ctor_field_sorts, ctor_sort, sel_argument, argument_sorts, result_sort}
 use Rattle.ct_names.proofs.FoundLemmas.{number_longer, number_found}
 use Rattle.ct_names.specs.Needs.{Grows}
 use Rattle.ct_names.specs.Variables.{Variable, ScopeIn}
@@ -87,6 +88,9 @@ module _ (later d : Declarations) (grows : Grows later d) (c : IsConsistent d) w
 
   pub ctor_same : (name : List ℕ) → ctor_named later name ≡ ctor_named d name
   ctor_same name = ap as_ctor (symbol_same name)
+
+  pub tester_same : (name : List ℕ) → tester_named later name ≡ tester_named d name
+  tester_same name = ap (λ (o : Option NamedCtor). if bytes_eq (take 3 name) (codes "is-") then unless_of_bool o else None) (ctor_same (drop 3 name))
 
   -- ---- numbers
 
@@ -263,6 +267,14 @@ module _ (later d : Declarations) (grows : Grows later d) (c : IsConsistent d) w
   pub symbol_inside : (name : List ℕ) (s : Symbol) → symbol_of d name ≡ Some s → IsSymbol d s
   symbol_inside name s is = symbol_there d name s (subst (ResolvesTo d name) is (resolves d c name))
 
+  of_unless : (o : Option NamedCtor) (k : NamedCtor) → unless_of_bool o ≡ Some k → o ≡ Some k
+  of_unless None k e = absurd (none-some k e)
+  of_unless (Some c) k e = by (is_of_bool c) e
+    where
+      by : (b : Bool) → (if b then None else Some c) ≡ Some k → Some c ≡ Some k
+      by true f = absurd (none-some k f)
+      by false f = f
+
   pub named_inside : (name : List ℕ) (k : NamedCtor) → ctor_named d name ≡ Some k → IsNamedCtor d k
   named_inside name k e = by (symbol_of d name) refl e
     where
@@ -274,6 +286,13 @@ module _ (later d : Declarations) (grows : Grows later d) (c : IsConsistent d) w
       by (Some (Fun n)) is f = absurd (none-some k f)
       by (Some (Def n)) is f = absurd (none-some k f)
       by (Some (GenSel g i n)) is f = absurd (none-some k f)
+
+  pub tester_inside : (name : List ℕ) (k : NamedCtor) → tester_named d name ≡ Some k → IsNamedCtor d k
+  tester_inside name k e = by (bytes_eq (take 3 name) (codes "is-")) e
+    where
+      by : (b : Bool) → (if b then unless_of_bool (ctor_named d (drop 3 name)) else None) ≡ Some k → IsNamedCtor d k
+      by true f = named_inside (drop 3 name) k (of_unless (ctor_named d (drop 3 name)) k f)
+      by false f = absurd (none-some k f)
 
   -- ---- sorts in the list
 

@@ -27,11 +27,11 @@ use Rattle.ct_names.specs.Outcome.{Sorted, unless_refused, step, refused, is_sor
 use Rattle.ct_names.specs.Parts.{name_of}
 use Rattle.ct_names.specs.Patterns.{Binding, variable_names, any_pattern, own_ctor, lone_ctor, lone_pattern, ctor_with, headed_pattern, leaf_pattern, ctor_at, pattern, matchable_kind, matchable, is_of_ctor, fits_all, are_exhaustive}
 use Rattle.ct_names.specs.Sorts.{written_sort, sort_of, sort_there, sort_of_part}
-use Rattle.ct_names.specs.Symbols.{symbol_of, operator_of, ctor_named, ctor_field_sorts, result_sort, symbol_applied}
+use Rattle.ct_names.specs.Symbols.{symbol_of, operator_of, ctor_named, tester_named, is_of_bool, ctor_field_sorts, result_sort, symbol_applied}
 use Rattle.ct_names.specs.Variables.{Variable, ScopeIn, find, has_repeated, present_names, variables}
-use Rattle.ct_names.specs.Elaboration.{lone_generic, lone_refusal, unless_for, lone_symbol, lone_operator, lone_global, lone_name, lone, may_qualify, of_instance, of_result, is_of_bool, testable, tested_name, part_of, parts_of}
+use Rattle.ct_names.specs.Elaboration.{lone_generic, lone_refusal, unless_for, lone_symbol, lone_operator, lone_global, lone_name, lone, may_qualify, of_instance, of_result, testable, tested_name, part_of, parts_of}
 use Rattle.ct_names.specs.Needs.{Grows}
-use Rattle.ct_names.proofs.LastingLemmas.{AreSorts, sort_at_same, symbol_same, ctor_same, ctors_same, fields_same, fields_inside, determined_same, among_same, among_inside, arguments_same, result_same, result_inside, symbol_inside, named_inside, there_stays}
+use Rattle.ct_names.proofs.LastingLemmas.{AreSorts, sort_at_same, symbol_same, ctor_same, tester_same, ctors_same, fields_same, fields_inside, determined_same, among_same, among_inside, arguments_same, result_same, result_inside, symbol_inside, named_inside, there_stays}
 use Rattle.ct_names.proofs.StayLemmas.{Stays, Any, stays_ok, stays_err, stays_same, stays_then, stays_step, stays_unless_refused, ScopeIn-variables, find_inside, name_same, variable_names_same, expression_same}
 
 -- a formula with a sort that is there
@@ -59,15 +59,18 @@ module _ (later d : Declarations) (grows : Grows later d) (c : IsConsistent d) w
       (ap₂ (λ (o : Option ℕ) (t : SortId). unless_for o (symbol_applied s no_formulas, t)) (refusal_same s is) (result_same later d grows c s is))
       (unless_for_inside (lone_refusal d s) (symbol_applied s no_formulas, result_sort d s) (result_inside later d grows c s is))
 
-  operator_stays : (o : Option CoreOperator) → Stays (IsIn d) (lone_operator o) (lone_operator o)
-  operator_stays None = stays_err (IsIn d) (refused unknown_symbol) (Err (refused unknown_symbol))
-  operator_stays (Some o) = stays_err (IsIn d) (refused wrong_count) (Err (refused wrong_count))
+  operator_stays : (o : Option CoreOperator) (k : Option NamedCtor) → Stays (IsIn d) (lone_operator o k) (lone_operator o k)
+  operator_stays None None = stays_err (IsIn d) (refused unknown_symbol) (Err (refused unknown_symbol))
+  operator_stays None (Some k) = stays_err (IsIn d) (refused wrong_count) (Err (refused wrong_count))
+  operator_stays (Some o) k = stays_err (IsIn d) (refused wrong_count) (Err (refused wrong_count))
 
   lone_global_stays : (name : List ℕ) → Stays (IsIn d) (lone_global d name (symbol_of d name)) (lone_global later name (symbol_of later name))
   lone_global_stays name = subst (λ (o : Option Symbol). Stays (IsIn d) (lone_global d name (symbol_of d name)) (lone_global later name o)) (sym (symbol_same later d grows c name)) (by (symbol_of d name) refl)
     where
       by : (o : Option Symbol) → symbol_of d name ≡ o → Stays (IsIn d) (lone_global d name o) (lone_global later name o)
-      by None is = operator_stays (operator_of name)
+      by None is =
+          subst (λ (k : Option NamedCtor). Stays (IsIn d) (lone_operator (operator_of name) (tester_named d name)) (lone_operator (operator_of name) k)) (sym (tester_same later d grows c name))
+          (operator_stays (operator_of name) (tester_named d name))
       by (Some s) is = lone_symbol_stays s (symbol_inside later d grows c name s is)
 
   pub lone_stays : (scope : List Variable) → ScopeIn d scope → (name : Option (List ℕ)) → Stays (IsIn d) (lone d scope name) (lone later scope name)

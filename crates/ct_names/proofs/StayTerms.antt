@@ -34,11 +34,11 @@ use Rattle.ct_names.specs.Parts.{count, name_of}
 use Rattle.ct_names.specs.Forms.{is_word, are_bindings, bound_names, are_cases, are_attributes}
 use Rattle.ct_names.specs.Patterns.{pattern, matchable, are_exhaustive}
 use Rattle.ct_names.specs.Sorts.{sort_there, sort_of_part}
-use Rattle.ct_names.specs.Symbols.{symbol_of, operator_of, argument_sorts, result_sort, symbol_applied, field_sort_id}
+use Rattle.ct_names.specs.Symbols.{symbol_of, operator_of, tester_named, argument_sorts, result_sort, symbol_applied, field_sort_id}
 use Rattle.ct_names.specs.Variables.{Variable, ScopeIn, find, variables, present_names, has_repeated}
-use Rattle.ct_names.specs.Elaboration.{Checked, elaborated, part_of, parts_of, meaning_of_part, list_meaning, arguments, all_of_sort, of_one_sort, choice_form, connective, operated, connected, takes, fitting, matched_arguments, instance_of, constructed, own, generic_ctor, generic_sel, applied_plain, applied_symbol, global, application, bound_terms, without_sorts, sorts_of, let_of, let_form, listable_sorts, quantified_of, quantified_form, annotated, no_more, goes_with, with_case_before, checked_cases, matched_cases, match_of, match_form, tested_term, tested_name, is_text_of_name, tester, qualified, qualified_name, qualified_symbol, may_qualify, of_result, reserved, headed, lone_symbol}
+use Rattle.ct_names.specs.Elaboration.{Checked, tested_by_name, elaborated, part_of, parts_of, meaning_of_part, list_meaning, arguments, all_of_sort, of_one_sort, choice_form, connective, operated, connected, takes, fitting, matched_arguments, instance_of, constructed, own, generic_ctor, generic_sel, applied_plain, applied_symbol, global, application, bound_terms, without_sorts, sorts_of, let_of, let_form, listable_sorts, quantified_of, quantified_form, annotated, no_more, goes_with, with_case_before, checked_cases, matched_cases, match_of, match_form, tested_term, tested_name, is_text_of_name, tester, qualified, qualified_name, qualified_symbol, may_qualify, of_result, reserved, headed, lone_symbol}
 use Rattle.ct_names.specs.Needs.{Grows}
-use Rattle.ct_names.proofs.LastingLemmas.{AreSorts, symbol_same, origin_same, field_same, field_inside, generic_fields_same, generic_params_same, determined_same, among_same, among_inside, field_among_same, field_among_inside, arguments_same, result_same, has_bool, result_inside, symbol_inside, there_stays}
+use Rattle.ct_names.proofs.LastingLemmas.{AreSorts, symbol_same, tester_same, tester_inside, origin_same, field_same, field_inside, generic_fields_same, generic_params_same, determined_same, among_same, among_inside, field_among_same, field_among_inside, arguments_same, result_same, has_bool, result_inside, symbol_inside, there_stays}
 use Rattle.ct_names.proofs.StayLemmas.{Stays, Any, stays_ok, stays_err, stays_same, stays_then, stays_step, stays_unless, stays_unless_refused, stays_if, ScopeIn-bind, ScopeIn-variables, name_same, word_same, count_same, bindings_same, bound_names_same, cases_same, attributes_same}
 use Rattle.ct_names.proofs.StayListable.{AreVariableSorts, variable_sorts_there, choices_stay, listable_sorts_stay}
 use Rattle.ct_names.proofs.StayPatterns.{IsIn, IsBound, lone_symbol_stays, lone_stays, sort_part_stays, qualify_stays, of_result_stays, tested_name_stays, pattern_stays, matchable_stays, exhaustive_same}
@@ -199,15 +199,21 @@ module _ (later d : Declarations) (grows : Grows later d) (c : IsConsistent d) w
     applied_stays (Fun f) is es lasts = applied_plain_stays (Fun f) is es lasts
     applied_stays (Def k) is es lasts = applied_plain_stays (Def k) is es lasts
 
-    global_stays : (o : Option CoreOperator) (name : List ℕ) (s : Option Symbol) → symbol_of d name ≡ s → (es : Sexprs) → AllLast es → Stays (IsIn d) (global d scope o s (parts_of d es)) (global later scope o s (parts_of later es))
+    by_name_stays : (name : List ℕ) (k : Option NamedCtor) → tester_named d name ≡ k → (es : Sexprs) → AllLast es → Stays (IsIn d) (tested_by_name d scope k (parts_of d es)) (tested_by_name later scope k (parts_of later es))
+    by_name_stays name None is es lasts = stays_err (IsIn d) (refused unknown_symbol) (Err (refused unknown_symbol))
+    by_name_stays name (Some k) is es lasts = tested_term_stays k (tester_inside later d grows c name k is) es lasts
+
+    global_stays : (o : Option CoreOperator) (name : List ℕ) (s : Option Symbol) → symbol_of d name ≡ s → (es : Sexprs) → AllLast es → Stays (IsIn d) (global d scope name o s (parts_of d es)) (global later scope name o s (parts_of later es))
     global_stays (Some o) name s is es lasts = stays_unless (IsIn d) (takes o (count (parts_of d es))) (takes o (count (parts_of later es))) wrong_count _ _ (ap (takes o) (count_same later d es)) (operated_stays o es lasts)
-    global_stays None name None is es lasts = stays_err (IsIn d) (refused unknown_symbol) (Err (refused unknown_symbol))
+    global_stays None name None is es lasts =
+        subst (λ (k : Option NamedCtor). Stays (IsIn d) (tested_by_name d scope (tester_named d name) (parts_of d es)) (tested_by_name later scope k (parts_of later es))) (sym (tester_same later d grows c name))
+        (by_name_stays name (tester_named d name) refl es lasts)
     global_stays None name (Some s) is es lasts = applied_stays s (symbol_inside later d grows c name s is) es lasts
 
     application_stays : (name : List ℕ) (es : Sexprs) → AllLast es → Stays (IsIn d) (application d scope name (parts_of d es)) (application later scope name (parts_of later es))
     application_stays name es lasts =
         stays_unless (IsIn d) (not (is_some (find scope name))) (not (is_some (find scope name))) unknown_symbol _ _ refl
-        (subst (λ (s : Option Symbol). Stays (IsIn d) (global d scope (operator_of name) (symbol_of d name) (parts_of d es)) (global later scope (operator_of name) s (parts_of later es))) (sym (symbol_same later d grows c name)) (global_stays (operator_of name) name (symbol_of d name) refl es lasts))
+        (subst (λ (s : Option Symbol). Stays (IsIn d) (global d scope name (operator_of name) (symbol_of d name) (parts_of d es)) (global later scope name (operator_of name) s (parts_of later es))) (sym (symbol_same later d grows c name)) (global_stays (operator_of name) name (symbol_of d name) refl es lasts))
 
     -- ---- qualified symbols
 

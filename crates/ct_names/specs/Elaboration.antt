@@ -28,7 +28,7 @@ use Rattle.ct_names.specs.declared.operator.CoreOperator.TheVariants.{Not, And, 
 use Rattle.ct_names.specs.Refusals.{undetermined, unknown_symbol, wrong_count, wrong_sort, not_exhaustive, repeated_variable, too_many_values, out_of_scope}
 use Rattle.ct_names.specs.Outcome.{Outcome, Elaborated, Sorted, and_then, unless_refused, unless_halted, step, refused, is_sort, of_sort}
 use Rattle.ct_names.specs.Parts.{Part, Parts, atom_part, list_part, no_parts, with_part, count, name_of}
-use Rattle.ct_names.specs.Symbols.{symbol_of, ctor_named, operator_of, argument_sorts, result_sort, symbol_applied, field_sort_id}
+use Rattle.ct_names.specs.Symbols.{symbol_of, ctor_named, tester_named, is_of_bool, operator_of, argument_sorts, result_sort, symbol_applied, field_sort_id}
 use Rattle.ct_names.specs.Sorts.{sort_of_part, sort_there}
 use Rattle.ct_instances.specs.declared.among.NamedCtor.{NamedCtor}
 use Rattle.ct_instances.specs.declared.among.NamedCtor.TheVariants.{Plain, Generic}
@@ -58,14 +58,15 @@ unless_for (Some error) x = Err (refused error)
 abbrev pub lone_symbol : Declarations → Symbol → Elaborated Sorted
 lone_symbol d s = unless_for (lone_refusal d s) (symbol_applied s no_formulas, result_sort d s)
 
--- a name that is no variable and no symbol: an operator takes arguments
-abbrev pub lone_operator : Option CoreOperator → Elaborated Sorted
-lone_operator None = Err (refused unknown_symbol)
-lone_operator (Some o) = Err (refused wrong_count)
+-- a name that is no variable and no symbol: operators and testers take arguments
+abbrev pub lone_operator : Option CoreOperator → Option NamedCtor → Elaborated Sorted
+lone_operator None None = Err (refused unknown_symbol)
+lone_operator None (Some c) = Err (refused wrong_count)
+lone_operator (Some o) tested = Err (refused wrong_count)
 
 -- a name that is no variable, where it stands alone
 abbrev pub lone_global : Declarations → List ℕ → Option Symbol → Elaborated Sorted
-lone_global d name None = lone_operator (operator_of name)
+lone_global d name None = lone_operator (operator_of name) (tester_named d name)
 lone_global d name (Some s) = lone_symbol d s
 
 -- a name that stands alone: the innermost variable of this name, and else a symbol
@@ -185,10 +186,6 @@ qualified_symbol d scope (with_part f (with_part sort no_parts)) = qualified_nam
 qualified_symbol d scope ps = Err (refused out_of_scope)
 
 -- the constructor that a tester tests for: one that is neither `true` nor `false`
-abbrev pub is_of_bool : NamedCtor → Bool
-is_of_bool (Plain c) = nat_le c.0 1
-is_of_bool (Generic g i) = false
-
 abbrev pub testable : Option NamedCtor → Outcome NamedCtor
 testable None = Err unknown_symbol
 testable (Some c) = unless_refused (not (is_of_bool c)) out_of_scope (Ok c)
@@ -324,17 +321,30 @@ applied_symbol d scope (GenCtor g i) ps = generic_ctor d scope g i ps
 applied_symbol d scope (GenSel g i k) ps = generic_sel d scope g i k ps
 applied_symbol d scope s ps = applied_plain d scope s ps
 
--- an operator or a symbol, with arguments
-abbrev pub global : Declarations → List Variable → Option CoreOperator → Option Symbol → Parts → Elaborated Sorted
-global d scope (Some o) s ps = unless_halted (takes o (count ps)) wrong_count (operated d scope o ps)
-global d scope None None ps = Err (refused unknown_symbol)
-global d scope None (Some s) ps = applied_symbol d scope s ps
+-- a test of the one argument, which is of a sort that has the constructor
+abbrev pub tested_term : Declarations → List Variable → NamedCtor → Parts → Elaborated Sorted
+tested_term d scope ctor (with_part t no_parts) =
+    and_then (meaning_of_part d scope t) (λ u.
+    and_then (step (own (ctor_among d ctor u.1))) (λ c.
+    Ok (formula.Test c u.0, bool_sort)))
+tested_term d scope ctor ps = Err (refused wrong_count)
+
+-- what is no operator and no symbol, with arguments: a tester by its name
+abbrev pub tested_by_name : Declarations → List Variable → Option NamedCtor → Parts → Elaborated Sorted
+tested_by_name d scope None ps = Err (refused unknown_symbol)
+tested_by_name d scope (Some c) ps = tested_term d scope c ps
+
+-- an operator, a symbol or a tester, with arguments
+abbrev pub global : Declarations → List Variable → List ℕ → Option CoreOperator → Option Symbol → Parts → Elaborated Sorted
+global d scope name (Some o) s ps = unless_halted (takes o (count ps)) wrong_count (operated d scope o ps)
+global d scope name None None ps = tested_by_name d scope (tester_named d name) ps
+global d scope name None (Some s) ps = applied_symbol d scope s ps
 
 -- a name with arguments, which is no variable
 abbrev pub application : Declarations → List Variable → List ℕ → Parts → Elaborated Sorted
 application d scope name ps =
     unless_halted (not (is_some (find scope name))) unknown_symbol
-    (global d scope (operator_of name) (symbol_of d name) ps)
+    (global d scope name (operator_of name) (symbol_of d name) ps)
 
 -- the terms of bindings, in order
 abbrev pub bound_terms : Declarations → List Variable → Parts → Elaborated (List Sorted)
@@ -420,14 +430,6 @@ match_of d scope t cases =
 abbrev pub match_form : Declarations → List Variable → Parts → Elaborated Sorted
 match_form d scope (with_part t (with_part (list_part cases m) no_parts)) = match_of d scope t cases
 match_form d scope ps = Err (refused out_of_scope)
-
--- a test of the one argument, which is of a sort that has the constructor
-abbrev pub tested_term : Declarations → List Variable → NamedCtor → Parts → Elaborated Sorted
-tested_term d scope ctor (with_part t no_parts) =
-    and_then (meaning_of_part d scope t) (λ u.
-    and_then (step (own (ctor_among d ctor u.1))) (λ c.
-    Ok (formula.Test c u.0, bool_sort)))
-tested_term d scope ctor ps = Err (refused wrong_count)
 
 -- a list that begins with a list: a tester, or a qualified symbol, with its arguments
 abbrev pub qualified : Declarations → List Variable → Parts → Parts → Elaborated Sorted

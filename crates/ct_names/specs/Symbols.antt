@@ -1,5 +1,5 @@
 -- What names stand for: sorts, symbols and operators (SMT-LIB 2.7, sections 3.6 and 3.7, and the theory Core).
-use Rattle.std.specs.Prelude.{ℕ, List, [], ◌∷◌, map, Option, Some, None, option_map, unwrap_or, slice_get, position, codes, if◌then◌else◌}
+use Rattle.std.specs.Prelude.{ℕ, nat_le, Bool, false, List, [], ◌∷◌, map, take, drop, Option, Some, None, option_map, unwrap_or, slice_get, position, codes, if◌then◌else◌}
 use Rattle.std.specs.Str.{bytes_eq}
 use Rattle.ct_sorts.specs.declared.ids.SortId.{SortId}
 use Rattle.ct_sorts.specs.declared.ids.CtorId.{CtorId}
@@ -45,6 +45,20 @@ as_ctor None = None
 -- the constructor with this name
 abbrev pub ctor_named : Declarations → List ℕ → Option NamedCtor
 ctor_named d name = as_ctor (symbol_of d name)
+
+-- the constructor is `true` or `false`
+abbrev pub is_of_bool : NamedCtor → Bool
+is_of_bool (Plain c) = nat_le c.0 1
+is_of_bool (Generic g i) = false
+
+-- the constructor that can be tested for, where it is one: neither `true` nor `false`
+abbrev pub unless_of_bool : Option NamedCtor → Option NamedCtor
+unless_of_bool None = None
+unless_of_bool (Some c) = if is_of_bool c then None else Some c
+
+-- the constructor that the tester with this name tests for: `is-C` is the tester of C, as other solvers have it beside `(_ is C)`
+abbrev pub tester_named : Declarations → List ℕ → Option NamedCtor
+tester_named d name = if bytes_eq (take 3 name) (codes "is-") then unless_of_bool (ctor_named d (drop 3 name)) else None
 
 -- the operators by their words
 abbrev pub operators : List (List ℕ × CoreOperator)

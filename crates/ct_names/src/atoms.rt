@@ -11,8 +11,8 @@ ghost use Rattle.ct_names.specs.Bounds.{held_name};
 
 use ct_sexpr::{Sexpr, is_reserved};
 
-/// The name that an expression is: a symbol that is no reserved word, and none for every other
-/// expression. It is for names of variables, symbols and sorts alike (SMT-LIB 2.7, section 3.1).
+/// The name that an expression is: a symbol that is not a reserved word; none for every other expression. It is for
+/// names of variables, symbols and sorts alike (SMT-LIB 2.7, section 3.1).
 pub fn name_of(expr: &Sexpr) -> Option<&[u8]>
     ensures name { (d : Declarations) → MatchOption result (name_of (part_of d
         (expression_of expr.now)) ≡ None)

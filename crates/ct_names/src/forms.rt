@@ -1,4 +1,4 @@
-//! The forms of binders and annotations, before their terms are looked at.
+//! The forms of binders and annotations, before their terms are elaborated.
 ghost use Rattle.std.specs.Prelude.{◌≡◌, List};
 ghost use Rattle.ct_sexpr.specs.View.{expression_of, expressions_of};
 ghost use Rattle.ct_sorts.specs.Declarations.{Declarations};

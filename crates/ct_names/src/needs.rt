@@ -1,4 +1,4 @@
-//! What becomes of the sorts that an expression needs.
+//! What happens to the sorts that an expression needs.
 
 /// What becomes of a sort that an expression needs and that is not there.
 #[derive(Clone, Copy, Debug, PartialEq, Eq)]

@@ -240,8 +240,7 @@ fn first_name(items: &[Sexpr]) -> Option<&[u8]>
     }
 }
 
-/// Variables of these names and sorts, one for one, as far as there are both. It fails only where
-/// memory runs out.
+/// Variables with these names and sorts, in pairs, as many as there are of both. It fails only where memory runs out.
 pub fn bounds<'e>(
     alloc: Global,
     names: &[Option<&'e [u8]>],
@@ -268,8 +267,8 @@ pub fn bounds<'e>(
     Ok(bounds)
 }
 
-/// The sort, where its values may be matched: a datatype or a codatatype. Bool is refused with 28, a
-/// declared sort with 23.
+/// The sort, if its values may be matched: a datatype or a codatatype. Bool is refused with 28, a declared sort with
+/// 23.
 ///
 /// A number that is no sort's is refused like Bool.
 pub fn matchable(sig: &Signature, side: SortId) -> Result<SortId, CheckError>

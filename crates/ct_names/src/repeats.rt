@@ -1,4 +1,4 @@
-//! Names that stand twice.
+//! Names that occur twice.
 ghost use Rattle.std.specs.Prelude.{◌≡◌, ◌++◌, [], ◌∷◌, map, false, IfOk, IfErr};
 ghost use Rattle.ct_names.specs.Bounds.{held_name};
 ghost use Rattle.ct_names.specs.Repeats.{names_in_set, are_met};
@@ -8,8 +8,8 @@ use crate::error::CheckError;
 use indexmap::IndexSet;
 use std::alloc::Global;
 
-/// Whether some name stands twice among those that are there. It fails only where memory runs out,
-/// and takes about as many look-ups as there are names.
+/// Whether some name occurs twice. It fails only where memory runs out, and takes about as many look-ups as there are
+/// names.
 pub fn has_repeated(alloc: Global, names: &[Option<&[u8]>]) -> Result<bool, CheckError>
     ensures value { IfOk result (λ r. r ≡ has_repeated (present_names (map held_name names.now))) }
     ensures err { IfErr result (λ e. e ≡ CheckError.NoMemory) }

@@ -191,7 +191,7 @@ fn look_up(known: Option<&Signature>, name: &[u8], args: usize) -> Result<(), Ch
     }
 }
 
-/// The sort that an expression writes, which comes into the list where it is not there, or is missing. It is refused as
+/// The sort that an expression writes; if it is not in the list, it is added, or reported as missing. It is refused as
 /// `written_sort` refuses without parameters.
 pub fn named_sort(
     alloc: Global,
@@ -255,7 +255,7 @@ fn found_sort(sig: &Signature, written: &SortExpr) -> Result<SortId, Stop>
     }
 }
 
-/// The number of a generic at these sorts, which comes into the list where it is not there, or is missing.
+/// The number of a generic at these sorts; if it is not in the list, it is added, or reported as missing.
 pub fn sort_at(sig: &mut Signature, needs: Needs, g: GenId, args: &[SortId]) -> Result<SortId, Stop>
     requires generic { TakesAll sig.old g args.now }
     requires sorts { All (IsSort sig.old) args.now }

@@ -64,7 +64,7 @@ impl<'e> Variables<'e> {
         }
     }
 
-    /// The variable of this name that was bound last, none where no variable in scope has it.
+    /// The variable of this name that was bound last; none if no variable in scope has the name.
     pub fn find(&self, name: &[u8]) -> Option<Found>
         ensures found { option_map (λ (f : Found). (f.number, f.sort)) result ≡ find self.now
             name.now }
@@ -110,7 +110,7 @@ impl<'e> Variables<'e> {
         let _ = put(&mut self.positions, last.bound.name, last.shadowed);
     }
 
-    /// Lets so many of the innermost variables leave, or all where there are fewer.
+    /// Unbinds this many of the innermost variables, or all if there are fewer.
     pub fn leave(&mut self, count: usize)
         ensures rest { self.new ≡ drop count self.old }
     {
@@ -119,7 +119,7 @@ impl<'e> Variables<'e> {
         }
     }
 
-    /// Binds variables in order, each as the new innermost, or none of them, where memory runs out.
+    /// Binds variables in order, each as the new innermost one; none of them if memory runs out.
     pub fn enter(&mut self, inner: &[BoundVariable<'e>]) -> Result<(), CheckError>
         ensures bound { OnOk result (self.new ≡ bind (map variable_of inner.now) self.old) }
         ensures unchanged { OnErr result (self.new ≡ self.old) }

@@ -1,9 +1,11 @@
 //! What names stand for.
-ghost use Rattle.std.specs.Prelude.{◌≡◌, ◌<◌, length, All, IfSome, IfOk, IfErr};
+ghost use Rattle.std.specs.Prelude.{◌≡◌, ◌<◌, ◌≤◌, length, take, codes, All, Some, IfSome, IfOk, IfErr};
+ghost use Rattle.std.specs.Bool.{OnTrue};
+ghost use Rattle.std.specs.Str.{bytes_eq};
 ghost use Rattle.ct_sorts.specs.Declarations.{IsSort};
 ghost use Rattle.ct_sorts.specs.Lookup.{IsSymbol};
 ghost use Rattle.ct_instances.specs.Among.{IsNamedCtor};
-ghost use Rattle.ct_names.specs.Symbols.{symbol_of, ctor_named, argument_sorts, result_sort, ctor_field_sorts, operator_of};
+ghost use Rattle.ct_names.specs.Symbols.{symbol_of, ctor_named, tester_named, unless_of_bool, is_of_bool, argument_sorts, result_sort, ctor_field_sorts, operator_of};
 ghost use Rattle.ct_sorts.specs.declared.ids.Symbol.TheVariants.{Ctor};
 
 use crate::error::CheckError;
@@ -22,7 +24,7 @@ pub fn symbol_named(sig: &Signature, name: &[u8]) -> Option<Symbol>
     sig.lookup(name)
 }
 
-/// The constructor with this name, none where it is the name of another symbol, or of none.
+/// The constructor with this name; none if the name is that of another symbol, or of none.
 pub fn ctor_named(sig: &Signature, name: &[u8]) -> Option<NamedCtor>
     ensures value { result ≡ ctor_named sig.now name.now }
     ensures inside { IfSome result (IsNamedCtor sig.now) }
@@ -35,8 +37,51 @@ pub fn ctor_named(sig: &Signature, name: &[u8]) -> Option<NamedCtor>
     }
 }
 
-/// The operator that the word is: what an application has at its head, where no variable has this
-/// name.
+/// The constructor that the tester with this name tests for: `is-C` is the tester of C, as cvc5 and z3 have it beside `(_ is C)`.
+/// None where no constructor has the name behind `is-`, and where it is `true` or `false`.
+pub fn tester_named(sig: &Signature, name: &[u8]) -> Option<NamedCtor>
+    ensures value { result ≡ tester_named sig.now name.now }
+    ensures inside { IfSome result (IsNamedCtor sig.now) }
+{
+    if !begins_tester(name) {
+        return None;
+    }
+    match ctor_named(sig, &name[3..]) {
+        Some(ctor) => unless_of_bool(ctor),
+        None => None,
+    }
+}
+
+// Whether the name begins with `is-`.
+fn begins_tester(name: &[u8]) -> bool
+    ensures value { result ≡ bytes_eq (take 3 name.now) (codes "is-") }
+    ensures long { OnTrue result (3 ≤ length name.now) }
+{
+    name.len() >= 3 && &name[..3] == b"is-".as_slice()
+}
+
+// The constructor, where it is neither `true` nor `false`.
+fn unless_of_bool(ctor: NamedCtor) -> Option<NamedCtor>
+    ensures value { result ≡ unless_of_bool (Some ctor) }
+    ensures same { IfSome result (λ c. c ≡ ctor) }
+{
+    if is_of_bool(ctor) {
+        return None;
+    }
+    Some(ctor)
+}
+
+/// Whether the constructor is `true` or `false`.
+pub fn is_of_bool(ctor: NamedCtor) -> bool
+    ensures value { result ≡ is_of_bool ctor }
+{
+    match ctor {
+        NamedCtor::Plain(c) => c.0 <= 1,
+        NamedCtor::Generic(_, _) => false,
+    }
+}
+
+/// The operator that the word is when it is the head of an application and no variable has this name.
 pub fn operator_of(word: &[u8]) -> Option<CoreOperator>
     ensures value { result ≡ operator_of word.now }
 {
