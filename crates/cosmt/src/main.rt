@@ -1,17 +1,20 @@
-//! The solver: reads a script, answers its commands, and shows that each answer is true.
+//! The program: reads a script, answers its commands, and backs each answer with a witness.
 #![tactic(auto)]
 
-ghost use Rattle.std.specs.Prelude.{◌≡◌, ◌≢◌, ℕ, List, [], Some, ◌≤◌};
+mod reason;
+
+ghost use Rattle.std.specs.Prelude.{◌≡◌, ◌≢◌, ℕ, Bool, List, [], Some, ◌≤◌};
 ghost use Rattle.ct_io.specs.Fault.{Rose};
 ghost use Rattle.ct_io.specs.declared.desk.Slot.TheVariants as slot;
 ghost use Rattle.ct_io.specs.declared.status.Status.TheVariants as status;
 ghost use Rattle.ct_arguments.specs.Arguments as arguments;
 ghost use Rattle.ct_run.specs.Kept.{kept_in};
-ghost use Rattle.ct_run.specs.Run.{Solves, Took, ReportsUsage, ReportsHelp};
+ghost use Rattle.ct_run.specs.Run.{Solves, Took, ReportsUsage, ReportsHelp, ReportsVersion, behavior_of};
 ghost use Rattle.ct_run.specs.AuditRun.{ReportsAudit, ReportsModelAudit, Reads};
 ghost use Rattle.ct_run.specs.Generated.{ReportsCounts};
 ghost use Rattle.ct_run.specs.Tasks.{IsAudit, IsOfScript};
 
+use crate::reason::explain;
 use ct_io::{Desk, HostDesk, HostSink, Sink, Status, Text};
 use ct_run::{Report, report_usage, unanswered};
 use std::alloc::Global;
@@ -20,31 +23,34 @@ use std::{env, io};
 
 fn main(rt: HostRuntime) -> ExitCode {
     let mut out = HostSink::new(rt);
-    let report = match words(&rt) {
-        Ok(words) => run(
-            rt.alloc(),
-            words.as_slice(),
-            &mut HostDesk::new(rt),
-            &mut out,
-        ),
+    let status = match words(&rt) {
+        Ok(words) => answered(rt, words.as_slice(), &mut out),
         Err(error) => without_arguments(&rt, error.kind(), &mut out),
     };
-    ExitCode::from(report.status.code())
+    ExitCode::from(status.code())
+}
+
+/// Runs the program, and says on standard error why there are no answers, or not all. Where that cannot be said, the status tells.
+fn answered(rt: HostRuntime, words: &[Text], out: &mut HostSink<HostRuntime>) -> Status {
+    let report = run(rt.alloc(), words, &mut HostDesk::new(rt), out);
+    drop(explain(&rt, words, report.status));
+    report.status
 }
 
 /// Runs the program on the arguments of its command line, without its own name.
 ///
 /// One argument that is no option names a script, and no argument, or an empty one, standard input. The
-/// script is answered command by command, up to its end, to `exit` or to an error of its text. `--audit`
+/// script is answered command by command, up to its end, to `exit` or to an error of its text, and with
+/// `--strict` to the first error unless it says otherwise. `--audit`
 /// with a derivation and a script judges the one by the other, `--gen` with a number answers a script
-/// that is generated and counts its answers, and `--help` is answered with the line of usage. So are all
+/// that is generated and counts its answers, `--version` is answered with the version, and `--help` with the line of usage. So are all
 /// other arguments, with the status of usage.
 pub fn run<D: Desk, K: Sink>(alloc: Global, words: &[Text], desk: &mut D, out: &mut K) -> Report
     // Where the desk tells what it holds under the script's name, the report and what was written are its answers, and after a fault
     // those to what was taken of the script.
-    ensures solved { (name bytes : List ℕ) → arguments.task_of words.now ≡ arguments.solves name → D.held desk.old name ≡ Some bytes
+    ensures solved { (strict : Bool) (name bytes : List ℕ) → arguments.task_of words.now ≡ arguments.solves strict name → D.held desk.old name ≡ Some bytes
         → (taken : ℕ) × Took result.status bytes taken (D.left desk.old slot.Script) (D.left desk.new slot.Script)
-        × Solves bytes taken result.status (kept_in result) result.errors.items (K.written out.old) (K.written out.new) }
+        × Solves (behavior_of strict) bytes taken result.status (kept_in result) result.errors.items (K.written out.old) (K.written out.new) }
     // The same of a derivation that is judged by a script.
     ensures audited { (proof script proof_bytes script_bytes : List ℕ) → arguments.task_of words.now ≡ arguments.audits proof script
         → D.held desk.old proof ≡ Some proof_bytes → D.held desk.old script ≡ Some script_bytes
@@ -62,13 +68,15 @@ pub fn run<D: Desk, K: Sink>(alloc: Global, words: &[Text], desk: &mut D, out: &
         → ReportsCounts count result.status (kept_in result) result.errors.items (K.written out.old) (K.written out.new) }
     ensures helped { arguments.task_of words.now ≡ arguments.helps
         → ReportsHelp result.status (kept_in result) result.errors.items (K.written out.old) (K.written out.new) }
+    ensures told_version { arguments.task_of words.now ≡ arguments.versions
+        → ReportsVersion result.status (kept_in result) result.errors.items (K.written out.old) (K.written out.new) }
     ensures usage { arguments.task_of words.now ≡ arguments.faulty
         → ReportsUsage result.status (kept_in result) result.errors.items (K.written out.old) (K.written out.new) }
 
     // Where the desk tells nothing, as that of the host, there are still bytes, whatever the status, of which the
     // report is right, and what was written where the sink tells it.
-    ensures some_script { (name : List ℕ) → arguments.task_of words.now ≡ arguments.solves name → (bytes : List ℕ) × (taken : ℕ)
-        × Solves bytes taken result.status (kept_in result) result.errors.items (K.written out.old) (K.written out.new) }
+    ensures some_script { (strict : Bool) (name : List ℕ) → arguments.task_of words.now ≡ arguments.solves strict name → (bytes : List ℕ) × (taken : ℕ)
+        × Solves (behavior_of strict) bytes taken result.status (kept_in result) result.errors.items (K.written out.old) (K.written out.new) }
     ensures some_files { (proof script : List ℕ) → arguments.task_of words.now ≡ arguments.audits proof script → (proof_bytes : List ℕ) × (script_bytes : List ℕ)
         × ReportsAudit proof_bytes script_bytes result.status (kept_in result) result.errors.items (K.written out.old) (K.written out.new) }
     ensures some_model { (model script : List ℕ) (number : ℕ) → arguments.task_of words.now ≡ arguments.audits_model model number script → (model_bytes : List ℕ) × (script_bytes : List ℕ)
@@ -107,9 +115,11 @@ fn without_arguments(
     rt: &HostRuntime,
     error: io::ErrorKind,
     out: &mut HostSink<HostRuntime>,
-) -> Report {
+) -> Status {
     if error == io::ErrorKind::InvalidData {
-        return report_usage(rt.alloc(), out);
+        drop(eprintln!(rt; "cosmt: an argument is not UTF-8"));
+        return report_usage(rt.alloc(), out).status;
     }
-    unanswered(rt.alloc(), Status::NoMemory)
+    drop(eprintln!(rt; "cosmt: out of memory"));
+    unanswered(rt.alloc(), Status::NoMemory).status
 }

@@ -248,16 +248,28 @@ module _ (s : Shape) (is_leaf : s.is_leaf ≡ true) where
 
 -- ---- after the walk
 
--- where no argument has a default value, none is wrong
-no_default_more : (rows : List Row) (a : Rule) (rest : Kinds) (b h : Bool) → b ≡ true → rest ≡ [] → or_else (cond (h || b) [] (given_default_fault a a.defaults)) rest ≡ []
-no_default_more rows a rest true true e none = none
-no_default_more rows a rest true false e none = none
-no_default_more rows a rest false h e none = absurd (true≢false (sym e))
+-- no kinds
+abbrev is_nil : Kinds → Bool
+is_nil [] = true
+is_nil (k ∷ ks) = false
 
-pub no_default_fault : (rows : List Row) (rules : List Rule) → list_all (λ a. is_empty a.defaults) rules ≡ true → defaults_fault rows rules ≡ []
+nil_of : (ks : Kinds) → is_nil ks ≡ true → ks ≡ []
+nil_of [] e = refl
+nil_of (k ∷ ks) e = absurd (true≢false (sym e))
+
+-- the default values of the argument, if it has any, are right
+abbrev pub is_right : Rule → Bool
+is_right a = is_empty a.defaults || is_nil (given_default_fault a a.defaults)
+
+-- where those of each argument are right, none is wrong
+right_default : (a : Rule) (given empty : Bool) → (empty || is_nil (given_default_fault a a.defaults)) ≡ true → cond (given || empty) [] (given_default_fault a a.defaults) ≡ []
+right_default a true empty right = refl
+right_default a false true right = refl
+right_default a false false right = nil_of (given_default_fault a a.defaults) right
+
+pub no_default_fault : (rows : List Row) (rules : List Rule) → list_all is_right rules ≡ true → defaults_fault rows rules ≡ []
 unfolding defaults_fault
 no_default_fault rows [] e = refl
 no_default_fault rows (a ∷ rest) e =
-    let parts = both_parts (is_empty a.defaults) (list_all (λ x. is_empty x.defaults) rest) e in
-    no_default_more rows a (defaults_fault (with_default rows a) rest) (is_empty a.defaults) (has_row a.id rows) parts.0
-    (no_default_fault (with_default rows a) rest parts.1)
+    let parts = both_parts (is_right a) (list_all is_right rest) e in
+    rw (right_default a (has_row a.id rows) (is_empty a.defaults) parts.0) (no_default_fault (with_default rows a) rest parts.1)

@@ -1,4 +1,4 @@
-//! The number of blocks of a generated script, and that of a check, as arguments write them.
+//! Parses the number of blocks of a generated script, and the number of a check.
 
 ghost use Rattle.std.specs.Prelude.{◌≡◌};
 ghost use Rattle.ct_arguments.specs.Arguments.{block_count, check_number};

@@ -10,7 +10,7 @@ ghost use Rattle.ct_arguments.specs.Seen.{task_seen};
 use crate::error::ArgumentError;
 use crate::number::{block_count, check_number};
 use clap::error::ErrorKind;
-use clap::{Arg, ArgMatches, Command};
+use clap::{Arg, ArgAction, ArgMatches, Command};
 use ct_io::Text;
 use std::alloc::{AllocError, Global};
 
@@ -18,7 +18,12 @@ use std::alloc::{AllocError, Global};
 #[derive(Clone, Copy, Debug)]
 pub enum Task<'a> {
     /// To answer the script of this name. The empty name stands for standard input.
-    Solve(&'a str),
+    Solve {
+        /// Whether the script ends at its first error, unless it says otherwise.
+        strict: bool,
+        /// The name of the script.
+        script: &'a str,
+    },
     /// To check a derivation against its script.
     Audit {
         /// The name of the derivation.
@@ -39,6 +44,8 @@ pub enum Task<'a> {
     Generate(u64),
     /// To tell how the program is called.
     Help,
+    /// To tell the version of the program.
+    Version,
     /// Nothing: the arguments have none of the forms.
     Faulty,
 }
@@ -64,6 +71,12 @@ fn command<'a>(alloc: Global) -> Result<Command<'a>, AllocError>
     let count = Arg::new(alloc, "gen").long("gen");
     let model = Arg::new(alloc, "audit-model").long("audit-model");
     let check = Arg::new(alloc, "at").long("at");
+    let strict = Arg::new(alloc, "strict")
+        .long("strict")
+        .action(ArgAction::SetTrue);
+    let version = Arg::new(alloc, "version")
+        .long("version")
+        .action(ArgAction::SetTrue);
     let file = Arg::new(alloc, "file");
     Command::new(alloc, "cosmt")
         .no_binary_name(true)
@@ -71,6 +84,8 @@ fn command<'a>(alloc: Global) -> Result<Command<'a>, AllocError>
         .arg(count)?
         .arg(model)?
         .arg(check)?
+        .arg(strict)?
+        .arg(version)?
         .arg(file)
 }
 
@@ -78,13 +93,81 @@ fn command<'a>(alloc: Global) -> Result<Command<'a>, AllocError>
 fn meaning<'a>(matches: &ArgMatches<'a>) -> Task<'a>
     ensures task { task_seen result ≡ spec.asked_for (rows_of (found_of matches.now)) }
 {
-    asked_by(
+    asked_with(
+        is_met(matches.get_str("version")),
+        is_met(matches.get_str("strict")),
         matches.get_str("gen"),
         matches.get_str("audit"),
         matches.get_str("audit-model"),
         matches.get_str("at"),
         matches.get_str("file"),
     )
+}
+
+/// Whether an option without a value was met, by what stands for it.
+fn is_met(value: Option<&str>) -> bool
+    ensures met { result ≡ spec.is_met (option_map (λ s. s.now) value.entry) }
+{
+    match value {
+        Some(text) => text.as_bytes() == b"true".as_slice(),
+        None => false,
+    }
+}
+
+/// What the values of the other options and of the file ask for, beside `--version` and `--strict`, which are met or not.
+fn asked_with<'a>(
+    version: bool,
+    strict: bool,
+    count: Option<&'a str>,
+    proof: Option<&'a str>,
+    model: Option<&'a str>,
+    check: Option<&'a str>,
+    script: Option<&'a str>,
+) -> Task<'a>
+    ensures task { task_seen result ≡ spec.asked_with version strict (option_map (λ s. s.now) count.entry) (option_map (λ s. s.now) proof.entry)
+        (option_map (λ s. s.now) model.entry) (option_map (λ s. s.now) check.entry) (option_map (λ s. s.now) script.entry) }
+{
+    match (version, strict) {
+        (true, true) => Task::Faulty,
+        (true, false) => alone(count, proof, model, check, script),
+        (false, true) => strictly(asked_by(count, proof, model, check, script)),
+        (false, false) => asked_by(count, proof, model, check, script),
+    }
+}
+
+/// What `--version` asks for, which stands alone.
+fn alone<'a>(
+    count: Option<&'a str>,
+    proof: Option<&'a str>,
+    model: Option<&'a str>,
+    check: Option<&'a str>,
+    script: Option<&'a str>,
+) -> Task<'a>
+    ensures task { task_seen result ≡ spec.alone (option_map (λ s. s.now) count.entry) (option_map (λ s. s.now) proof.entry)
+        (option_map (λ s. s.now) model.entry) (option_map (λ s. s.now) check.entry) (option_map (λ s. s.now) script.entry) }
+{
+    match (count, proof, model, check, script) {
+        (None, None, None, None, None) => Task::Version,
+        _ => Task::Faulty,
+    }
+}
+
+/// The same beside `--strict`, which stands beside a script alone.
+fn strictly<'a>(task: Task<'a>) -> Task<'a>
+    ensures task { task_seen result ≡ spec.strictly (task_seen task.entry) }
+{
+    match task {
+        Task::Solve { script, .. } => Task::Solve {
+            strict: true,
+            script,
+        },
+        Task::Audit { .. }
+        | Task::AuditModel { .. }
+        | Task::Generate(_)
+        | Task::Help
+        | Task::Version
+        | Task::Faulty => Task::Faulty,
+    }
 }
 
 /// What the values of `--gen`, of `--audit`, of `--audit-model`, of `--at` and of the file ask for.
@@ -149,8 +232,14 @@ fn asked_of_script<'a>(
 {
     match (model, check, script) {
         (Some(model), Some(check), Some(script)) => model_audit(model, check, script),
-        (None, None, Some(script)) => Task::Solve(script),
-        (None, None, None) => Task::Solve(""),
+        (None, None, Some(script)) => Task::Solve {
+            strict: false,
+            script,
+        },
+        (None, None, None) => Task::Solve {
+            strict: false,
+            script: "",
+        },
         (Some(_), None, _) | (Some(_), Some(_), None) | (None, Some(_), _) => Task::Faulty,
     }
 }

@@ -1,5 +1,5 @@
 -- The state that is found at a check of a script has the stack and the options of the state in which the script's answers come to it.
-use Rattle.std.proofs.Common.{◌≡◌, ◌∙◌, ℕ, Bool, true, false, List, [], ◌∷◌, ◌++◌, ◌==◌, None, Some, refl, sym, ap, subst}
+use Rattle.std.proofs.Common.{◌≡◌, ◌∙◌, ℕ, ◌⊎◌, Bool, true, false, List, [], ◌∷◌, ◌++◌, ◌==◌, None, Some, refl, sym, ap, subst, inl, inr}
 use Rattle.std.specs.Bool.{MatchBool}
 use Rattle.std.proofs.lemmas.Bool.{and_parts, eqb-true}
 use Rattle.std.proofs.lemmas.Option.{none-some, same_Some}
@@ -10,9 +10,9 @@ use Rattle.ct_step.specs.Evidence.{Evidence}
 use Rattle.ct_script.specs.declared.replay.Replayed.{Replayed}
 use Rattle.ct_step.specs.State.{State, first_state}
 use Rattle.ct_step.specs.Step.{counted}
-use Rattle.ct_script.specs.Answers.{Answers, Leads}
+use Rattle.ct_script.specs.Answers.{Answers, Leads, IsSilent}
 use Rattle.ct_script.specs.Session.{Course, first_course}
-use Rattle.ct_script.specs.Replay.{is_check, is_assuming, IsCounted, IsPassedOver, IsStepped, Replays, GoesThrough, HaveOneStack, AnswersThrough}
+use Rattle.ct_script.specs.Replay.{is_check, awaits_verdict, IsCounted, IsPassedOver, IsStepped, Replays, GoesThrough, HaveOneStack, AnswersThrough, is_undecided, EndsUndecided}
 use Rattle.ct_replay.specs.Found.{Finds, is_wanted}
 use Rattle.ct_audit.specs.AtCheck.{IsAtCheck}
 
@@ -22,7 +22,7 @@ pub record ReplayTheorems : Type 0 where
   pub tells : (line : ℕ) (x : Expression) (old new : Course) (r : Replayed) → Replays old line (command x) new r → r.check ≡ is_check (command x)
   pub leads_alike : (s last : State) (number count : ℕ) (cs : List Located) (kept : Evidence) (errors : List (ℕ × ℕ)) (lines : List (List ℕ)) (old new : Course) → Leads s number cs last count kept errors lines → GoesThrough old cs new → HaveOneStack s old.state → HaveOneStack last new.state
   pub leads_counted : (s last : State) (number count : ℕ) (cs : List Located) (kept : Evidence) (errors : List (ℕ × ℕ)) (lines : List (List ℕ)) (old new : Course) → Leads s number cs last count kept errors lines → GoesThrough old cs new → old.number ≡ number → new.number ≡ count
-  pub goes_through : (s : State) (number : ℕ) (first others : List Located) (ending : Ending) (kept : Evidence) (errors : List (ℕ × ℕ)) (lines : List (List ℕ)) (old new : Course) → Answers s number (first ++ others) ending kept errors lines → GoesThrough old first new → HaveOneStack s old.state → (last : State) × (count : ℕ) × AnswersThrough s number first others ending kept errors lines last count
+  pub goes_through : (s : State) (number : ℕ) (first others : List Located) (ending : Ending) (kept : Evidence) (errors : List (ℕ × ℕ)) (lines : List (List ℕ)) (old new : Course) → Answers s number (first ++ others) ending kept errors lines → GoesThrough old first new → HaveOneStack s old.state → ((last : State) × (count : ℕ) × AnswersThrough s number first others ending kept errors lines last count) ⊎ EndsUndecided s number first kept errors lines
 
 -- these commands split at the wanted check: the replay goes through those before it, and then comes to this state
 record IsSplit (old : Course) (cs : List Located) (wanted : ℕ) (found : State) : Type 0 where
@@ -83,33 +83,64 @@ split old (c ∷ cs) wanted found (new, r, replays, turned) =
 -- a check that is replayed changes no state
 check_stays : (old new : Course) (line : ℕ) (x : Expression) (r : Replayed) → is_check (command x) ≡ true → Replays old line (command x) new r → new.state ≡ old.state
 check_stays old new line x r asks replays =
-    let counted : IsCounted old new r = subst (λ (b : Bool). MatchBool b (IsCounted old new r) (MatchBool (is_assuming (command x)) (IsPassedOver old new r) (IsStepped old line (command x) new r))) asks replays in
+    let counted : IsCounted old new r = subst (λ (b : Bool). MatchBool b (IsCounted old new r) (MatchBool (awaits_verdict (command x)) (IsPassedOver old new r) (IsStepped old line (command x) new r))) asks replays in
     ap (λ (c : Course). c.state) counted.0
 
--- where the commands split, the answers come to the check
-at_split : (t : ReplayTheorems) (script : List Located) (wanted : ℕ) (found : State) (ending : Ending) (kept : Evidence) (errors : List (ℕ × ℕ)) (lines : List (List ℕ)) → IsSplit first_course script wanted found → Answers first_state 0 script ending kept errors lines → IsAtCheck script wanted found ending kept errors lines
-at_split t script wanted found ending kept errors lines p answers =
-    let parted : Answers first_state 0 (p.before ++ p.check ∷ p.after) ending kept errors lines = subst (λ (cs : List Located). Answers first_state 0 cs ending kept errors lines) p.all answers in
-    let start : HaveOneStack first_state first_state = record { stack = refl; options = refl } in
-    let gone = t.goes_through first_state 0 p.before (p.check ∷ p.after) ending kept errors lines first_course p.mid parted p.through start in
-    let through : AnswersThrough first_state 0 p.before (p.check ∷ p.after) ending kept errors lines gone.0 gone.1 = gone.2 in
-    let one : HaveOneStack gone.0 p.mid.state = t.leads_alike first_state gone.0 0 gone.1 p.before through.first_kept through.first_errors through.first_lines first_course p.mid through.leads p.through start in
-    let count : p.mid.number ≡ gone.1 = t.leads_counted first_state gone.0 0 gone.1 p.before through.first_kept through.first_errors through.first_lines first_course p.mid through.leads p.through refl in
-    let wants : (p.r.check ≡ true) × ((p.new.number == wanted) ≡ true) = and_parts p.r.check (p.new.number == wanted) p.wants in
-    let asks : is_check (command p.check.command) ≡ true = sym (t.tells p.check.line p.check.command p.mid p.new p.r p.replays) ∙ wants.0 in
-    record {
-      before = p.before;
-      check = p.check;
-      after = p.after;
-      all = p.all;
-      asks = asks;
-      last = gone.0;
-      count = gone.1;
-      through = through;
-      number = ap (λ (n : ℕ). counted n p.check.command) (sym count) ∙ sym (t.counts p.check.line p.check.command p.mid p.new p.r p.replays) ∙ eqb-true p.new.number wanted wants.1;
-      same = subst (λ (s : State). HaveOneStack gone.0 s) (sym (check_stays p.mid p.new p.check.line p.check.command p.r asks p.replays) ∙ p.same) one;
-    }
+-- a script that ends at one of some commands ends there with others after them
+ends_or_more : (stop : Bool) (P A B : Type 0) → (A → B) → MatchBool stop P A → MatchBool stop P B
+ends_or_more true P A B more h = h
+ends_or_more false P A B more h = more h
 
--- what is found at a check has the stack and the options that the answers have there
-pub answers_at : (t : ReplayTheorems) (script : List Located) (wanted : ℕ) (found : State) (ending : Ending) (kept : Evidence) (errors : List (ℕ × ℕ)) (lines : List (List ℕ)) → Finds first_course script wanted (Some found) → Answers first_state 0 script ending kept errors lines → IsAtCheck script wanted found ending kept errors lines
+ends_in_more : (s : State) (number : ℕ) (first others : List Located) (kept : Evidence) (errors : List (ℕ × ℕ)) (lines : List (List ℕ)) → EndsUndecided s number first kept errors lines → EndsUndecided s number (first ++ others) kept errors lines
+ends_in_more s number [] others kept errors lines ends = absurd ends
+ends_in_more s number (c ∷ first) others kept errors lines (e, vs, es, ls, step, followed, ends) = (
+  e,
+  vs,
+  es,
+  ls,
+  step,
+  followed,
+  ends_or_more e.stop ((is_undecided (command c.command) ≡ true) × IsSilent vs es ls) (EndsUndecided e.state (counted number c.command) first vs es ls)
+      (EndsUndecided e.state (counted number c.command) (first ++ others) vs es ls) (λ h. ends_in_more e.state (counted number c.command) first others vs es ls h) ends,
+)
+
+-- where the commands split, the answers come to the check, or end before it
+module _ (t : ReplayTheorems) (script : List Located) (wanted : ℕ) (found : State) (ending : Ending) (kept : Evidence) (errors : List (ℕ × ℕ)) (lines : List (List ℕ)) (p : IsSplit first_course script wanted found) where
+  start : HaveOneStack first_state first_state
+  start = record { stack = refl; options = refl }
+
+  at_check : (last : State) (total : ℕ) → AnswersThrough first_state 0 p.before (p.check ∷ p.after) ending kept errors lines last total → IsAtCheck script wanted found ending kept errors lines
+  at_check last total through =
+      let one : HaveOneStack last p.mid.state = t.leads_alike first_state last 0 total p.before through.first_kept through.first_errors through.first_lines first_course p.mid through.leads p.through start in
+      let count : p.mid.number ≡ total = t.leads_counted first_state last 0 total p.before through.first_kept through.first_errors through.first_lines first_course p.mid through.leads p.through refl in
+      let wants : (p.r.check ≡ true) × ((p.new.number == wanted) ≡ true) = and_parts p.r.check (p.new.number == wanted) p.wants in
+      let asks : is_check (command p.check.command) ≡ true = sym (t.tells p.check.line p.check.command p.mid p.new p.r p.replays) ∙ wants.0 in
+      record {
+        before = p.before;
+        check = p.check;
+        after = p.after;
+        all = p.all;
+        asks = asks;
+        last = last;
+        count = total;
+        through = through;
+        number = ap (λ (n : ℕ). counted n p.check.command) (sym count) ∙ sym (t.counts p.check.line p.check.command p.mid p.new p.r p.replays) ∙ eqb-true p.new.number wanted wants.1;
+        same = subst (λ (s : State). HaveOneStack last s) (sym (check_stays p.mid p.new p.check.line p.check.command p.r asks p.replays) ∙ p.same) one;
+      }
+
+  abbrev IsThereOrEnds : Type 0
+  IsThereOrEnds = IsAtCheck script wanted found ending kept errors lines ⊎ EndsUndecided first_state 0 script kept errors lines
+
+  at_or_before : ((last : State) × (total : ℕ) × AnswersThrough first_state 0 p.before (p.check ∷ p.after) ending kept errors lines last total) ⊎ EndsUndecided first_state 0 p.before kept errors lines → IsThereOrEnds
+  at_or_before (inl gone) = inl (at_check gone.0 gone.1 gone.2)
+  at_or_before (inr ends) =
+      inr (subst (λ (cs : List Located). EndsUndecided first_state 0 cs kept errors lines) (sym p.all) (ends_in_more first_state 0 p.before (p.check ∷ p.after) kept errors lines ends))
+
+  at_split : Answers first_state 0 script ending kept errors lines → IsThereOrEnds
+  at_split answers =
+      let parted : Answers first_state 0 (p.before ++ p.check ∷ p.after) ending kept errors lines = subst (λ (cs : List Located). Answers first_state 0 cs ending kept errors lines) p.all answers in
+      at_or_before (t.goes_through first_state 0 p.before (p.check ∷ p.after) ending kept errors lines first_course p.mid parted p.through start)
+
+-- what is found at a check has the stack and the options that the answers have there, or these end before it
+pub answers_at : (t : ReplayTheorems) (script : List Located) (wanted : ℕ) (found : State) (ending : Ending) (kept : Evidence) (errors : List (ℕ × ℕ)) (lines : List (List ℕ)) → Finds first_course script wanted (Some found) → Answers first_state 0 script ending kept errors lines → IsAtCheck script wanted found ending kept errors lines ⊎ EndsUndecided first_state 0 script kept errors lines
 answers_at t script wanted found ending kept errors lines finds answers = at_split t script wanted found ending kept errors lines (split first_course script wanted found finds) answers

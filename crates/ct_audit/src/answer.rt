@@ -1,4 +1,4 @@
-//! What an audit says, and its text.
+//! The answer of an audit, and its text.
 ghost use Rattle.std.specs.Prelude.{◌≡◌, string_bytes, codes, ◌++◌, IfOk};
 ghost use Rattle.std.specs.Fmt.{decimal};
 ghost use Rattle.ct_audit.specs.Answer.{audit_text, audit_error, wrong_text};

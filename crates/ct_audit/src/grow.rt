@@ -1,4 +1,4 @@
-//! A table of terms grows by the core terms of assertions.
+//! Adds the core terms of assertions to a table of terms.
 ghost use Rattle.std.specs.Prelude.{All, map, IfOk, IsErrOf};
 ghost use Rattle.ct_terms.specs.Terms.{AreSorted, IsBoolean};
 ghost use Rattle.ct_formulas.specs.TreeFormula.{formula_of};

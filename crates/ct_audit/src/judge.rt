@@ -1,4 +1,4 @@
-//! A derivation is judged over the assertions of its check.
+//! Judges a derivation over the assertions of its check.
 ghost use Rattle.std.specs.Prelude.{◌≡◌, All, map, IfOk, IsErrOf, Ok, MatchOption};
 ghost use Rattle.ct_sexpr.specs.View.{expression_of};
 ghost use Rattle.ct_card.specs.Sizes.{AreSizes};

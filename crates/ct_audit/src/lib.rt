@@ -1,4 +1,4 @@
-//! The audit: a derivation that was stored as text is judged against the script that it is of.
+//! Audits of derivations: a stored derivation is judged by its script.
 #![tactic(auto)]
 
 mod answer;

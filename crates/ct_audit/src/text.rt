@@ -1,4 +1,4 @@
-//! The audit of a text with a derivation by a text with a script.
+//! The audit of the text of a derivation by the text of a script.
 ghost use Rattle.std.specs.Prelude.{◌≡◌, true, List, Some, IfOk};
 ghost use Rattle.ct_sexpr.specs.Text.{Located, Ending, Reads};
 ghost use Rattle.ct_sexpr.specs.View.{expression_of};
@@ -11,7 +11,7 @@ use crate::error::AuditError;
 use crate::judge::{DEPARTS, judge};
 use ct_log_text::derivation_number;
 use ct_replay::{find_check, one_expression};
-use ct_script::Session;
+use ct_script::{ErrorBehavior, Session};
 use ct_sexpr::{Reader, Sexpr, one_text};
 use std::alloc::Global;
 
@@ -78,7 +78,7 @@ fn audit_check(
     ensures judged { IfOk result (λ answer. (commands : List Located) × (ending : Ending) × Reads 1 script.old.bytes commands ending
         × JudgesNumbered (expression_of expr.now) (Some number) commands answer) }
 {
-    let mut session = Session::new(alloc)?;
+    let mut session = Session::new(alloc, ErrorBehavior::ContinuedExecution)?;
     let answer = judge_in(alloc, &mut session, expr, number, script);
     drop(session);
     answer

@@ -36,6 +36,8 @@ pub data Command : Type 0 where
   -- a logic by its name, whether or not there is one of that name
   set_logic : List ℕ → Command
   set_option : Setting → Command
+  -- the diagnostic channel, by a string literal
+  set_diagnostic_output : Expression → Command
   get_option : OptionName → Command
   set_info : Command
   get_info : Info → Command

@@ -55,6 +55,21 @@ abbrev pub keyword_of : Expression → Option (List ℕ)
 keyword_of (leaf a) = keyword_of_atom a
 keyword_of (list es) = None
 
+-- what a string literal says, where the atom is one
+abbrev pub text_of_atom : Atom → Option (List ℕ)
+text_of_atom (symbol w) = None
+text_of_atom (quoted w) = None
+text_of_atom (keyword w) = None
+text_of_atom (text w) = Some w
+text_of_atom (numeral n) = None
+text_of_atom (decimal w) = None
+text_of_atom (binary w) = None
+text_of_atom (hexadecimal w) = None
+
+abbrev pub text_of : Expression → Option (List ℕ)
+text_of (leaf a) = text_of_atom a
+text_of (list es) = None
+
 -- the atom is a string literal
 abbrev pub is_text_atom : Atom → Bool
 is_text_atom (symbol w) = false

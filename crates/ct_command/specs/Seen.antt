@@ -12,7 +12,7 @@ use Rattle.ct_command.specs.declared.command.Constructor.{Constructor as ReadCon
 use Rattle.ct_command.specs.declared.command.Body.{Body as ReadBody}
 use Rattle.ct_command.specs.declared.command.Command.{Command as ReadCommand}
 use Rattle.ct_command.specs.declared.command.Command.TheVariants as command
-use Rattle.ct_command.specs.Command.{Literal, Named, SortHead, Constructor, Body, Command, set_logic, set_option, get_option, set_info, get_info, declare_sort, define_sort, declare_block, declare_fun, define_fun, assert, check_sat, check_sat_assuming, push, pop, reset_assertions, reset, get_model, get_value, get_proof, get_unsat_core, get_unsat_assumptions, echo, exit, unsupported}
+use Rattle.ct_command.specs.Command.{Literal, Named, SortHead, Constructor, Body, Command, set_logic, set_option, set_diagnostic_output, get_option, set_info, get_info, declare_sort, define_sort, declare_block, declare_fun, define_fun, assert, check_sat, check_sat_assuming, push, pop, reset_assertions, reset, get_model, get_value, get_proof, get_unsat_core, get_unsat_assumptions, echo, exit, unsupported}
 
 -- the bytes, where there are any
 abbrev pub bytes_seen : Option (Bor (List ℕ)) → Option (List ℕ)
@@ -67,6 +67,7 @@ bodies_seen bs = map body_seen bs.items
 abbrev pub command_seen : ReadCommand → Command
 command_seen (command.SetLogic name) = set_logic name.now
 command_seen (command.SetOption s) = set_option s
+command_seen (command.SetDiagnosticOutput s) = set_diagnostic_output (expression_of s.now)
 command_seen (command.GetOption o) = get_option o
 command_seen command.SetInfo = set_info
 command_seen (command.GetInfo i) = get_info i

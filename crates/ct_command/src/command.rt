@@ -66,6 +66,8 @@ pub enum Command<'a> {
     SetLogic(&'a [u8]),
     /// `set-option`, with a known option and a value of its kind.
     SetOption(Setting),
+    /// `set-option :diagnostic-output-channel`, with the string literal as it was read.
+    SetDiagnosticOutput(&'a Sexpr),
     /// `get-option`, with a known option.
     GetOption(OptionName),
     /// `set-info`.

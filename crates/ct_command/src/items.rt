@@ -3,12 +3,12 @@ ghost use Rattle.std.specs.Prelude.{◌≡◌, Option, None, Some, MatchOption};
 ghost use Rattle.ct_sexpr.specs.Atom.{symbol};
 ghost use Rattle.ct_sexpr.specs.Readable.{name_of_atom};
 ghost use Rattle.ct_sexpr.specs.View.{expression_of};
-ghost use Rattle.ct_command.specs.Items.{name_of, word_of, numeral_of, keyword_of, is_text, items_of};
+ghost use Rattle.ct_command.specs.Items.{name_of, word_of, numeral_of, keyword_of, text_of, is_text, items_of};
 ghost use Rattle.ct_command.specs.Seen.{bytes_seen, items_seen};
 
 use ct_sexpr::{Sexpr, is_reserved};
 
-/// The name that an expression is: a symbol that is no reserved word.
+/// The name that an expression is: a symbol that is not a reserved word.
 pub fn name_of(expr: &Sexpr) -> Option<&[u8]>
     ensures name { name_of (expression_of expr.now) ≡ bytes_seen result }
 {
@@ -78,6 +78,23 @@ pub(crate) fn keyword_of(expr: &Sexpr) -> Option<&[u8]>
         Sexpr::Symbol(_)
         | Sexpr::Quoted(_)
         | Sexpr::Text(_)
+        | Sexpr::Numeral(_)
+        | Sexpr::Decimal(_)
+        | Sexpr::Binary(_)
+        | Sexpr::Hex(_)
+        | Sexpr::List(_) => None,
+    }
+}
+
+/// What a string literal says, where the expression is one.
+pub(crate) fn text_of(expr: &Sexpr) -> Option<&[u8]>
+    ensures text { text_of (expression_of expr.now) ≡ bytes_seen result }
+{
+    match expr {
+        Sexpr::Text(content) => Some(content.as_slice()),
+        Sexpr::Symbol(_)
+        | Sexpr::Quoted(_)
+        | Sexpr::Keyword(_)
         | Sexpr::Numeral(_)
         | Sexpr::Decimal(_)
         | Sexpr::Binary(_)

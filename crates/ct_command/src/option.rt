@@ -30,6 +30,26 @@ pub enum NumeralOption {
     ResourceLimit,
     /// `:verbosity`.
     Verbosity,
+    /// `:random-seed`.
+    RandomSeed,
+}
+
+/// What follows an error, the value of `:error-behavior` (SMT-LIB 2.7, section 4.1.8).
+#[derive(Clone, Copy, Debug, PartialEq, Eq)]
+pub enum ErrorBehavior {
+    /// `continued-execution`: the next command is answered.
+    ContinuedExecution,
+    /// `immediate-exit`: the script ends.
+    ImmediateExit,
+}
+
+/// An output channel, an option whose value is a string (SMT-LIB 2.7, section 4.1.7).
+#[derive(Clone, Copy, Debug, PartialEq, Eq)]
+pub enum Channel {
+    /// `:diagnostic-output-channel`, where any string is taken.
+    Diagnostic,
+    /// `:regular-output-channel`, which is always `"stdout"`.
+    Regular,
 }
 
 /// An option by its name.
@@ -39,15 +59,21 @@ pub enum OptionName {
     Boolean(BooleanOption),
     /// Its value is a numeral.
     Numeral(NumeralOption),
+    /// `:error-behavior`.
+    ErrorBehavior,
+    /// Its value is a string.
+    Channel(Channel),
 }
 
-/// An option with the value that it is set to.
+/// An option with the value that it is set to, where that is no string.
 #[derive(Clone, Copy, Debug, PartialEq, Eq)]
 pub enum Setting {
     /// Set to `true` or `false`.
     Boolean(BooleanOption, bool),
     /// Set to this number.
     Numeral(NumeralOption, u128),
+    /// What follows an error is set to this.
+    ErrorBehavior(ErrorBehavior),
 }
 
 /// What a script may ask of the solver (SMT-LIB 2.7, section 4.1.8).

@@ -1,4 +1,4 @@
-//! The command that an expression is.
+//! Recognises the command that an expression is.
 ghost use Rattle.std.specs.Prelude.{◌≡◌, [], ◌∷◌, Some, None, option_map};
 ghost use Rattle.ct_sexpr.specs.View.{expression_of};
 ghost use Rattle.ct_command.specs.Forms.{declared_sort, defined_sort, free_sort, declared_const, declared_fun, defined_fun, defined_const, level_count, valued, some_terms, alone, echoed};

@@ -2,14 +2,16 @@
 ghost use Rattle.std.specs.Prelude.{◌≡◌, option_map};
 ghost use Rattle.ct_sexpr.specs.View.{expression_of};
 ghost use Rattle.ct_command.specs.Tables.{beside};
-ghost use Rattle.ct_command.specs.OptionForms.{options, infos, truths, truth_of, setting_of, value_set, logic_set, option_set, option_asked, info_set, info_asked};
+ghost use Rattle.ct_command.specs.OptionForms.{options, client_options, infos, truths, truth_of, behaviors, behavior_of, channel_set, set_to, value_set, logic_set, option_set, option_asked, info_set, info_asked};
 ghost use Rattle.ct_command.specs.Reading.{Reads};
 ghost use Rattle.ct_command.specs.Seen.{all_seen, command_seen};
 
 use crate::command::Command;
 use crate::error::{CommandError, WRONG_FORM};
-use crate::items::{keyword_of, name_of, numeral_of};
-use crate::option::{BooleanOption, Info, NumeralOption, OptionName, Setting};
+use crate::items::{keyword_of, name_of, numeral_of, text_of};
+use crate::option::{
+    BooleanOption, Channel, ErrorBehavior, Info, NumeralOption, OptionName, Setting,
+};
 use ct_sexpr::Sexpr;
 
 /// A logic by its name: `L`.
@@ -45,22 +47,71 @@ fn value_set(option: Option<OptionName>, value: &Sexpr) -> Result<Command<'_>, C
     ensures value { Reads command_seen (value_set option (expression_of value.now)) result }
 {
     match option {
-        Some(option) => match setting_of(option, value) {
-            Some(setting) => Ok(Command::SetOption(setting)),
+        Some(option) => match set_to(option, value) {
+            Some(command) => Ok(command),
             None => Err(CommandError::Refused(WRONG_FORM)),
         },
         None => Ok(Command::Unsupported),
     }
 }
 
-// An option with a value of its kind.
-fn setting_of(option: OptionName, value: &Sexpr) -> Option<Setting>
-    ensures setting { setting_of option (expression_of value.now) ≡ result }
+// An option that is set to a value of its kind.
+fn set_to(option: OptionName, value: &Sexpr) -> Option<Command<'_>>
+    ensures command { set_to option (expression_of value.now) ≡ option_map command_seen result }
 {
     match option {
-        OptionName::Boolean(option) => Some(Setting::Boolean(option, truth_of(value)?)),
-        OptionName::Numeral(option) => Some(Setting::Numeral(option, numeral_of(value)?)),
+        OptionName::Boolean(option) => {
+            let truth = truth_of(value)?;
+            Some(Command::SetOption(Setting::Boolean(option, truth)))
+        }
+        OptionName::Numeral(option) => {
+            let number = numeral_of(value)?;
+            Some(Command::SetOption(Setting::Numeral(option, number)))
+        }
+        OptionName::ErrorBehavior => {
+            let behavior = behavior_of(value)?;
+            Some(Command::SetOption(Setting::ErrorBehavior(behavior)))
+        }
+        OptionName::Channel(channel) => {
+            let content = text_of(value)?;
+            Some(channel_set(channel, value, content))
+        }
     }
+}
+
+// A channel that is set to a string literal, which says this. The regular one has one value, so that nothing is changed.
+fn channel_set<'a>(channel: Channel, value: &'a Sexpr, content: &[u8]) -> Command<'a>
+    ensures command { command_seen result ≡ channel_set channel (expression_of value.now) content.now }
+{
+    match channel {
+        Channel::Diagnostic => Command::SetDiagnosticOutput(value),
+        Channel::Regular => {
+            if b"stdout".as_slice() == content {
+                return Command::SetInfo;
+            }
+            Command::Unsupported
+        }
+    }
+}
+
+// What an expression says of errors.
+fn behavior_of(expr: &Sexpr) -> Option<ErrorBehavior>
+    ensures behavior { behavior_of (expression_of expr.now) ≡ result }
+{
+    behavior_named(name_of(expr)?)
+}
+
+// What follows an error, by its words.
+fn behavior_named(name: &[u8]) -> Option<ErrorBehavior>
+    ensures behavior { result ≡ beside behaviors name.now }
+{
+    if b"continued-execution".as_slice() == name {
+        return Some(ErrorBehavior::ContinuedExecution);
+    }
+    if b"immediate-exit".as_slice() == name {
+        return Some(ErrorBehavior::ImmediateExit);
+    }
+    None
 }
 
 // The Boolean value that an expression is.
@@ -167,6 +218,25 @@ fn option_of(keyword: &[u8]) -> Option<OptionName>
     }
     if b":minimal-unsat-cores".as_slice() == keyword {
         return Some(OptionName::Boolean(BooleanOption::MinimalUnsatCores));
+    }
+    client_option_of(keyword)
+}
+
+// The option of this keyword among those that clients set whatever the solver.
+fn client_option_of(keyword: &[u8]) -> Option<OptionName>
+    ensures value { result ≡ beside client_options keyword.now }
+{
+    if b":diagnostic-output-channel".as_slice() == keyword {
+        return Some(OptionName::Channel(Channel::Diagnostic));
+    }
+    if b":regular-output-channel".as_slice() == keyword {
+        return Some(OptionName::Channel(Channel::Regular));
+    }
+    if b":random-seed".as_slice() == keyword {
+        return Some(OptionName::Numeral(NumeralOption::RandomSeed));
+    }
+    if b":error-behavior".as_slice() == keyword {
+        return Some(OptionName::ErrorBehavior);
     }
     None
 }

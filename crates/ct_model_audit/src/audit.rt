@@ -1,4 +1,4 @@
-//! The audit of a text with a model by a text with a script.
+//! The audit of the text of a model by the text of a script.
 ghost use Rattle.std.specs.Prelude.{◌≡◌, ◌<◌, suc, true, List, Some, IfOk};
 ghost use Rattle.ct_sexpr.specs.Text.{Located, Ending, Reads};
 ghost use Rattle.ct_sexpr.specs.View.{expression_of};
@@ -17,7 +17,7 @@ use ct_eval::{Interp, holds};
 use ct_meaning::meanings;
 use ct_readback::{BackError, read_model};
 use ct_replay::{find_check, one_expression};
-use ct_script::Session;
+use ct_script::{ErrorBehavior, Session};
 use ct_sexpr::{Reader, Sexpr, one_text};
 use ct_sorts::Signature;
 use std::alloc::Global;
@@ -71,7 +71,7 @@ fn audit_expression(
     requires line { script.old.line ≡ 1 }
     ensures judged { IfOk result (JudgesScript (Some (expression_of expr.now)) number script.old.bytes) }
 {
-    let mut session = Session::new(alloc)?;
+    let mut session = Session::new(alloc, ErrorBehavior::ContinuedExecution)?;
     let answer = judge_in(alloc, &mut session, expr, number, script);
     drop(session);
     answer

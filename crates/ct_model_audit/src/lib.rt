@@ -1,4 +1,4 @@
-//! The audit of a model: whether each assertion in force at a check of a script is true in it.
+//! Audits of models: whether each assertion in force at a check of a script is true in a stored model.
 #![tactic(auto)]
 
 mod audit;

@@ -1,4 +1,4 @@
-//! A derivation, and a model, is one expression and nothing else.
+//! Parses a text that must be a single expression, such as a derivation or a model.
 ghost use Rattle.std.specs.Prelude.{◌≡◌, ◌∷◌, true, List, option_map, IfOk};
 ghost use Rattle.ct_sexpr.specs.Text.{Located, Ending, Reads};
 ghost use Rattle.ct_sexpr.specs.View.{expression_of};
@@ -7,7 +7,7 @@ ghost use Rattle.ct_replay.specs.One.{one_expression};
 use crate::error::ReplayError;
 use ct_sexpr::{Next, ReadError, Reader, Sexpr, one_text};
 
-/// The expression that the text is, where it is one and nothing else.
+/// The expression that the text is, if it is one and nothing else.
 pub fn one_expression(reader: &mut Reader) -> Result<Option<Sexpr>, ReplayError>
     requires ended { reader.old.ended ≡ true }
     ensures read { IfOk result (λ expr. (commands : List Located) × (ending : Ending) × Reads reader.old.line reader.old.bytes commands ending

@@ -1,4 +1,4 @@
-//! What audits stand on: a text that is one expression, and a script that is replayed up to one of its checks.
+//! The common part of audits: parses a text as a single expression, and replays a script up to one of its checks.
 #![tactic(auto)]
 
 mod error;

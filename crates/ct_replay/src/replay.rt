@@ -1,4 +1,4 @@
-//! A script is replayed up to one of its checks.
+//! Replays a script up to one of its checks.
 ghost use Rattle.std.specs.Prelude.{◌≡◌, ◌==◌, ◌&&◌, ◌∷◌, true, List, Option, IfOk};
 ghost use Rattle.ct_sexpr.specs.Text.{Located, Ending, Reads};
 ghost use Rattle.ct_sexpr.specs.View.{expression_of};

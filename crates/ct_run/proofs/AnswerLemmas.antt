@@ -6,7 +6,7 @@ use Rattle.ct_sexpr.specs.Text.{Located, Ending, clean, EndingSoFar}
 use Rattle.ct_step.specs.Evidence.{Evidence, no_evidence, followed_by}
 use Rattle.ct_step.specs.State.{State}
 use Rattle.ct_step.specs.Step.{CommandEffect, Step, counted, refusal_text}
-use Rattle.ct_step.proofs.EvidenceLemmas.{nothing_later, followed_assoc}
+use Rattle.ct_step.proofs.EvidenceLemmas.{nothing_earlier, nothing_later, followed_assoc}
 use Rattle.ct_script.specs.Answers.{Answers, Leads, IsSilent, IsFollowed, lines_of, errors_of}
 use Rattle.ct_run.specs.SoFar.{AnswersSoFar, TextState, ends, stands, AnswersTo, refusal}
 
@@ -33,8 +33,9 @@ followed_by_nothing line e = record {
 silent_before : (P : Evidence → List (ℕ × ℕ) → List (List ℕ) → Type 0) (vs ws : Evidence) (es fs : List (ℕ × ℕ)) (ls ms : List (List ℕ)) → IsSilent vs es ls → P ws fs ms → P (followed_by vs ws) (es ++ fs) (ls ++ ms)
 silent_before P vs ws es fs ls ms silent p =
     subst (λ (xs : Evidence). P (followed_by xs ws) (es ++ fs) (ls ++ ms)) (sym silent.nothing_kept)
+    (subst (λ (xs : Evidence). P xs (es ++ fs) (ls ++ ms)) (sym (nothing_earlier ws))
     (subst (λ (xs : List (ℕ × ℕ)). P ws (xs ++ fs) (ls ++ ms)) (sym silent.no_error)
-    (subst (λ (xs : List (List ℕ)). P ws fs (xs ++ ms)) (sym silent.no_line) p))
+    (subst (λ (xs : List (List ℕ)). P ws fs (xs ++ ms)) (sym silent.no_line) p)))
 
 -- commands that are answered after commands that do not end the script
 pub Answers-after : (s mid : State) (n k : ℕ) (cs ds : List Located) (x : Ending) (vs ws : Evidence) (es fs : List (ℕ × ℕ)) (ls ms : List (List ℕ)) → Leads s n cs mid k vs es ls → Answers mid k ds x ws fs ms → Answers s n (cs ++ ds) x (followed_by vs ws) (es ++ fs) (ls ++ ms)

@@ -44,7 +44,7 @@ pub record Tells (answer : AuditAnswer) (kept : Evidence) (errors : List (ℕ ×
 abbrev pub answer_line : AuditAnswer → List (List ℕ)
 answer_line answer = lines_of (audit_text answer)
 
--- how an audit with this answer ends: by its status, the verdicts and errors, and the bytes of the sink before and after it
+-- how an audit with this answer ends: by its status, what is kept, the errors, and the bytes of the sink before and after it
 abbrev pub ReportsAnswer : AuditAnswer → Status → Evidence → List (ℕ × ℕ) → Option (List ℕ) → Option (List ℕ) → Type 0
 ReportsAnswer answer Done kept errors old new = (answer ≡ Verified) × Tells answer kept errors × (new ≡ wrote (answer_line answer) old)
 ReportsAnswer answer Rejected kept errors old new = (answer ≢ Verified) × Tells answer kept errors × (new ≡ wrote (answer_line answer) old)

@@ -2,6 +2,6 @@
 use Rattle.ct_step.specs.Evidence.{Evidence, evidence}
 use Rattle.ct_run.specs.declared.report.Report.{Report}
 
--- its verdicts, and its cores that were shrunk
+-- the answers of its checks, its last verdict, and its last core that was shrunk
 abbrev pub kept_in : Report → Evidence
-kept_in report = evidence report.verdicts.items report.shrunk.items
+kept_in report = evidence report.responses.items report.last report.shrunk

@@ -23,4 +23,8 @@ IsLeft NoMemory lines old new = GrewByPrefix (concat lines) old new
 
 -- the one line that tells how the program is called
 abbrev pub usage_line : List ℕ
-usage_line = codes "usage: cosmt [FILE | --audit PROOF FILE | --audit-model MODEL --at K FILE | --gen N]\n"
+usage_line = codes "usage: cosmt [--strict] [FILE | --audit PROOF FILE | --audit-model MODEL --at K FILE | --gen N | --version]\n"
+
+-- the one line that tells the version of the program
+abbrev pub version_line : List ℕ
+version_line = codes "cosmt 1.0\n"

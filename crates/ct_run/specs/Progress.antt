@@ -41,7 +41,7 @@ pub record IsCutOff (error : SinkError) (old new : Course) (line : ℕ) (e : Exp
   pub answered : AnsweredWith old new line e effect
   pub left : IsLeft error (lines_of effect.text) before now
 
--- what was answered of the one to the other: these verdicts and errors
+-- what was answered of the one to the other, by what is kept of it and by its errors
 pub record Adds (old new : Course) (kept : Evidence) (errors : List (ℕ × ℕ)) : Type 0 where
   pub kept_is : new.evidence ≡ followed_by old.evidence kept
   pub errors_are : new.errors ≡ old.errors ++ errors

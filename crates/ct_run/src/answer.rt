@@ -1,4 +1,4 @@
-//! Answers are written, each on a line of its own.
+//! Writes answers, each on a line of its own.
 ghost use Rattle.std.specs.Prelude.{◌≡◌, ◌⊎◌, IfOk, OnOk, IfErr};
 ghost use Rattle.ct_io.specs.Fault.{HasCause};
 ghost use Rattle.ct_sexpr.specs.View.{expression_of};

@@ -1,4 +1,4 @@
-//! A stored derivation, or a stored model, is judged by its script.
+//! Judges a stored derivation, or a stored model, by its script.
 
 ghost use Rattle.std.specs.Prelude.{◌≡◌, ◌≢◌, ◌≤◌, ◌&&◌, ℕ, List, Some, is_some, IfOk, IfErr, OnOk, option_to_list};
 ghost use Rattle.ct_io.specs.Fault.{HasCause, Rose};
@@ -11,11 +11,12 @@ ghost use Rattle.ct_run.specs.Output.{wrote, IsLeft};
 ghost use Rattle.ct_run.specs.AuditRun.{AreFiles, AreRead, Reads, Reports, ReportsAudit, ReportsModelAudit, answer_line, status_of_answer};
 
 use crate::answer::write_line;
-use crate::report::{Report, ScriptError, status_of, unanswered};
+use crate::report::{Report, status_of, unanswered};
 use ct_audit::{AuditAnswer, audit, audit_error, audit_text};
 use ct_input::{InputError, read_whole_slot};
 use ct_io::{Desk, Sink, SinkError, Slot, Status};
 use ct_model_audit::audit_model;
+use ct_script::ScriptError;
 use ct_sexpr::Reader;
 use std::alloc::{AllocError, Global};
 
@@ -165,9 +166,10 @@ fn report_answer<K: Sink>(alloc: Global, answer: AuditAnswer, out: &mut K) -> Re
     };
     Report {
         status,
-        verdicts: Vec::new(alloc),
+        responses: Vec::new(alloc),
         errors,
-        shrunk: Vec::new(alloc),
+        last: None,
+        shrunk: None,
     }
 }
 

@@ -1,59 +1,62 @@
-//! How many checks of a script had each answer, and the line that tells it.
+//! How many checks of a script had each answer, and the line that reports it.
 
 ghost use Rattle.std.specs.Prelude.{◌≡◌, IfOk, count_by, string_bytes};
 ghost use Rattle.ct_run.specs.Generated as spec;
 
-use ct_engine::Verdict;
+use ct_script::CheckResponse;
 use std::alloc::{AllocError, Global};
 
 /// The line of a generated script of so many blocks.
-pub fn counts_line(alloc: Global, n: u64, verdicts: &[Verdict]) -> Result<String, AllocError>
-    ensures line { IfOk result (λ line. string_bytes line ≡ spec.counts_line n verdicts.now) }
+pub fn counts_line(alloc: Global, n: u64, responses: &[CheckResponse]) -> Result<String, AllocError>
+    ensures line { IfOk result (λ line. string_bytes line ≡ spec.counts_line n responses.now) }
 {
-    let sat = count_sat(verdicts);
-    let unsat = count_unsat(verdicts);
-    let unknown = count_unknown(verdicts);
+    let sat = count_sat(responses);
+    let unsat = count_unsat(responses);
+    let unknown = count_unknown(responses);
     format!(in alloc; "gen {n}: {sat} sat, {unsat} unsat, {unknown} unknown\n")
 }
 
 /// How many checks were answered `sat`.
-fn count_sat(verdicts: &[Verdict]) -> usize
-    ensures count { result ≡ count_by spec.is_sat verdicts.now }
+fn count_sat(responses: &[CheckResponse]) -> usize
+    ensures count { result ≡ count_by spec.is_sat responses.now }
 {
-    verdicts.iter().filter(|verdict| is_sat(verdict)).count()
+    responses.iter().filter(|response| is_sat(response)).count()
 }
 
 /// How many checks were answered `unsat`.
-fn count_unsat(verdicts: &[Verdict]) -> usize
-    ensures count { result ≡ count_by spec.is_unsat verdicts.now }
+fn count_unsat(responses: &[CheckResponse]) -> usize
+    ensures count { result ≡ count_by spec.is_unsat responses.now }
 {
-    verdicts.iter().filter(|verdict| is_unsat(verdict)).count()
-}
-
-/// How many checks were answered `unknown`.
-fn count_unknown(verdicts: &[Verdict]) -> usize
-    ensures count { result ≡ count_by spec.is_unknown verdicts.now }
-{
-    verdicts
+    responses
         .iter()
-        .filter(|verdict| is_unknown(verdict))
+        .filter(|response| is_unsat(response))
         .count()
 }
 
-fn is_sat(verdict: &Verdict) -> bool
-    ensures value { result ≡ spec.is_sat verdict.now }
+/// How many checks were answered `unknown`.
+fn count_unknown(responses: &[CheckResponse]) -> usize
+    ensures count { result ≡ count_by spec.is_unknown responses.now }
 {
-    matches!(verdict, Verdict::Sat(_))
+    responses
+        .iter()
+        .filter(|response| is_unknown(response))
+        .count()
 }
 
-fn is_unsat(verdict: &Verdict) -> bool
-    ensures value { result ≡ spec.is_unsat verdict.now }
+fn is_sat(response: &CheckResponse) -> bool
+    ensures value { result ≡ spec.is_sat response.now }
 {
-    matches!(verdict, Verdict::Unsat(_))
+    matches!(response, CheckResponse::Sat)
 }
 
-fn is_unknown(verdict: &Verdict) -> bool
-    ensures value { result ≡ spec.is_unknown verdict.now }
+fn is_unsat(response: &CheckResponse) -> bool
+    ensures value { result ≡ spec.is_unsat response.now }
 {
-    matches!(verdict, Verdict::Unknown(_))
+    matches!(response, CheckResponse::Unsat)
+}
+
+fn is_unknown(response: &CheckResponse) -> bool
+    ensures value { result ≡ spec.is_unknown response.now }
+{
+    matches!(response, CheckResponse::Unknown)
 }

@@ -1,4 +1,4 @@
-//! A generated script is answered, and the counts of its answers are written.
+//! Answers a generated script, and writes how often each answer was given.
 
 ghost use Rattle.std.specs.Prelude.{◌≡◌, ◌≢◌, ◌≤◌, ◌<◌, ℕ, List, [], IfErr, IfOk, None, OnErr, Option, length, take};
 ghost use Rattle.ct_io.specs.Bytes.{appended};
@@ -8,14 +8,14 @@ ghost use Rattle.ct_gen.specs.Script.{script};
 ghost use Rattle.ct_input.specs.Slot.{IsReadWhole};
 ghost use Rattle.ct_run.specs.Kept.{kept_in};
 ghost use Rattle.ct_run.specs.Generated as spec;
-ghost use Rattle.ct_run.specs.Generated.{IsSolved, IsSolvedSoFar, ReportsCounts};
+ghost use Rattle.ct_run.specs.Generated.{HasResponsesAlone, IsSolved, IsSolvedSoFar, ReportsCounts};
 
 use crate::counts::counts_line;
 use crate::report::{Report, status_of};
 use crate::solve::answer_script;
-use ct_engine::Verdict;
 use ct_gen::gen_script;
 use ct_io::{Sink, SinkError, Status, write_all};
+use ct_script::CheckResponse;
 use ct_sexpr::{ReadError, Reader};
 use std::alloc::Global;
 
@@ -30,32 +30,32 @@ pub fn generate<K: Sink>(alloc: Global, n: u64, out: &mut K) -> Report
     ensures uncounted { result.status ≢ status.OutputFault → K.faults out.new ≡ K.faults out.old }
 {
     match solve_generated(alloc, n) {
-        Ok(verdicts) => report_counts(alloc, n, verdicts, out),
-        Err(verdicts) => without_errors(alloc, Status::NoMemory, verdicts),
+        Ok(responses) => report_counts(alloc, n, responses, out),
+        Err(responses) => without_errors(alloc, Status::NoMemory, responses),
     }
 }
 
-/// The verdicts of the generated script. Where memory ran out, those of the checks before that; and so where a command was
+/// The answers of the checks of the generated script. Where memory ran out, those of the checks before that; and so where a command was
 /// refused, which none of a generated script is.
 #[tactic(auto, using(crate::proofs::GeneratedLemmas::nothing_solved))]
-fn solve_generated(alloc: Global, n: u64) -> Result<Vec<Verdict>, Vec<Verdict>>
+fn solve_generated(alloc: Global, n: u64) -> Result<Vec<CheckResponse>, Vec<CheckResponse>>
     requires some { 1 ≤ n }
     requires few { n ≤ 2000 }
-    ensures solved { IfOk result (λ verdicts. IsSolved n verdicts.items) }
-    ensures stopped { IfErr result (λ verdicts. IsSolvedSoFar n verdicts.items) }
+    ensures solved { IfOk result (λ responses. IsSolved n responses.items) }
+    ensures stopped { IfErr result (λ responses. IsSolvedSoFar n responses.items) }
 {
     let Ok(mut reader) = read_generated(alloc, n) else {
         return Err(Vec::new(alloc));
     };
     let Report {
         status,
-        verdicts,
+        responses,
         ..
     } = answer_script(alloc, &mut reader, &mut NoSink);
     if is_done(status) {
-        Ok(verdicts)
+        Ok(responses)
     } else {
-        Err(verdicts)
+        Err(responses)
     }
 }
 
@@ -83,22 +83,32 @@ fn read_generated(alloc: Global, n: u64) -> Result<Reader, ReadError>
 
 /// Writes how many checks had each answer.
 #[tactic(auto, using(crate::proofs::GeneratedLemmas::unwritten_report))]
-fn report_counts<K: Sink>(alloc: Global, n: u64, verdicts: Vec<Verdict>, out: &mut K) -> Report
-    requires solved { IsSolved n verdicts.items }
+fn report_counts<K: Sink>(
+    alloc: Global,
+    n: u64,
+    responses: Vec<CheckResponse>,
+    out: &mut K,
+) -> Report
+    requires solved { IsSolved n responses.items }
     ensures counted { ReportsCounts n result.status (kept_in result) result.errors.items (K.written out.old) (K.written out.new) }
     ensures output { result.status ≡ status.OutputFault → Rose (K.faults out.old) (K.faults out.new) }
     ensures count { K.faults out.old ≤ K.faults out.new }
     ensures uncounted { result.status ≢ status.OutputFault → K.faults out.new ≡ K.faults out.old }
 {
-    match counts_line(alloc, n, verdicts.as_slice()) {
-        Ok(line) => write_counts(alloc, line.as_str(), verdicts, out),
-        Err(_) => without_errors(alloc, Status::NoMemory, verdicts),
+    match counts_line(alloc, n, responses.as_slice()) {
+        Ok(line) => write_counts(alloc, line.as_str(), responses, out),
+        Err(_) => without_errors(alloc, Status::NoMemory, responses),
     }
 }
 
-/// Writes the line with the counts of the verdicts.
-fn write_counts<K: Sink>(alloc: Global, line: &str, verdicts: Vec<Verdict>, out: &mut K) -> Report
-    ensures counted { (n : ℕ) → IsSolved n verdicts.items → line.now ≡ spec.counts_line n verdicts.items
+/// Writes the line with the counts of the answers.
+fn write_counts<K: Sink>(
+    alloc: Global,
+    line: &str,
+    responses: Vec<CheckResponse>,
+    out: &mut K,
+) -> Report
+    ensures counted { (n : ℕ) → IsSolved n responses.items → line.now ≡ spec.counts_line n responses.items
         → ReportsCounts n result.status (kept_in result) result.errors.items (K.written out.old) (K.written out.new) }
     ensures output { result.status ≡ status.OutputFault → Rose (K.faults out.old) (K.faults out.new) }
     ensures count { K.faults out.old ≤ K.faults out.new }
@@ -108,21 +118,21 @@ fn write_counts<K: Sink>(alloc: Global, line: &str, verdicts: Vec<Verdict>, out:
         Ok(()) => Status::Done,
         Err(error) => status_of(error),
     };
-    without_errors(alloc, status, verdicts)
+    without_errors(alloc, status, responses)
 }
 
-/// The report of these verdicts and nothing else. Takes no memory.
-fn without_errors(alloc: Global, status: Status, verdicts: Vec<Verdict>) -> Report
+/// The report of these answers and nothing else. Takes no memory.
+fn without_errors(alloc: Global, status: Status, responses: Vec<CheckResponse>) -> Report
     ensures status { result.status ≡ status }
-    ensures verdicts { result.verdicts.items ≡ verdicts.items }
-    ensures errors { result.errors.items ≡ [] }
-    ensures shrunk { result.shrunk.items ≡ [] }
+    ensures responses { result.responses.items ≡ responses.items }
+    ensures alone { HasResponsesAlone (kept_in result) result.errors.items }
 {
     Report {
         status,
-        verdicts,
+        responses,
         errors: Vec::new(alloc),
-        shrunk: Vec::new(alloc),
+        last: None,
+        shrunk: None,
     }
 }
 

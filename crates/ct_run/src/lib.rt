@@ -1,5 +1,5 @@
-//! The body of a run: what the arguments ask for is done. A script is read and its commands are
-//! answered in a session, or a stored derivation is judged, or a generated script is counted.
+//! The body of a run, which does what the arguments ask for: answers a script in a session, judges a stored derivation or
+//! model, or counts the answers to a generated script.
 #![tactic(auto)]
 
 mod answer;
@@ -12,6 +12,7 @@ mod stream;
 mod top;
 mod turn;
 
+pub use ct_script::{CheckResponse, ScriptError};
 pub use generated::generate;
-pub use report::{Report, ScriptError, unanswered};
+pub use report::{Report, unanswered};
 pub use top::{report_usage, run};

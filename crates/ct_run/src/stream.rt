@@ -1,4 +1,4 @@
-//! A slot is read piece by piece, and what is whole is answered before the slot is asked for more.
+//! Reads a slot piece by piece, and answers complete commands before asking the slot for more.
 
 ghost use Rattle.std.specs.Prelude.{◌≡◌, ◌≤◌, ◌<◌, false, length, IfErr, IfOk, OnErr};
 ghost use Rattle.ct_io.specs.Fault.{HasCause};

@@ -1,13 +1,13 @@
-//! The program, over any desk and any sink.
+//! The top-level function of the program, over any desk and any sink.
 
-ghost use Rattle.std.specs.Prelude.{◌≡◌, ◌≢◌, ℕ, List, [], Some, ◌≤◌};
+ghost use Rattle.std.specs.Prelude.{◌≡◌, ◌≢◌, ℕ, Bool, List, [], Some, ◌≤◌};
 ghost use Rattle.ct_io.specs.Fault.{Rose};
 ghost use Rattle.ct_io.specs.declared.desk.Slot.TheVariants as slot;
 ghost use Rattle.ct_io.specs.declared.status.Status.TheVariants as status;
 ghost use Rattle.ct_arguments.specs.Arguments as arguments;
 ghost use Rattle.ct_arguments.specs.Seen.{task_seen};
 ghost use Rattle.ct_run.specs.Kept.{kept_in};
-ghost use Rattle.ct_run.specs.Run.{Solves, Took, ReportsUsage, ReportsHelp};
+ghost use Rattle.ct_run.specs.Run.{Solves, Took, ReportsUsage, ReportsHelp, ReportsVersion, Tells, behavior_of};
 ghost use Rattle.ct_run.specs.AuditRun.{ReportsAudit, ReportsModelAudit, Reads};
 ghost use Rattle.ct_run.specs.Generated.{ReportsCounts};
 ghost use Rattle.ct_run.specs.Tasks.{Does, DoesOfSome, ReadsFiles, IsAudit, IsOfScript};
@@ -18,26 +18,31 @@ use crate::report::{Report, status_of, unanswered};
 use crate::solve::solve;
 use ct_arguments::{Task, task_of};
 use ct_io::{Desk, Sink, Status, Text, write_all};
+use ct_script::ErrorBehavior;
 use std::alloc::Global;
 
 /// How the program is called.
 const USAGE: &str =
-    "usage: cosmt [FILE | --audit PROOF FILE | --audit-model MODEL --at K FILE | --gen N]\n";
+    "usage: cosmt [--strict] [FILE | --audit PROOF FILE | --audit-model MODEL --at K FILE | --gen N | --version]\n";
+
+/// The version of the program.
+const VERSION: &str = "cosmt 1.0\n";
 
 /// Runs the program on the arguments of its command line, without its own name.
 ///
 /// One argument that is no option names a script, and no argument, or an empty one, standard input. The
-/// script is answered command by command, up to its end, to `exit` or to an error of its text. `--audit`
+/// script is answered command by command, up to its end, to `exit` or to an error of its text, and with
+/// `--strict` to the first error unless it says otherwise. `--audit`
 /// with a derivation and a script judges the one by the other, `--audit-model` with a model, a script and
 /// `--at` with the number of a check evaluates the assertions in force there, `--gen` with a number answers a script
-/// that is generated and counts its answers, and `--help` is answered with the line of usage. So are all
+/// that is generated and counts its answers, `--version` is answered with the version, and `--help` with the line of usage. So are all
 /// other arguments, with the status of usage.
 pub fn run<D: Desk, K: Sink>(alloc: Global, words: &[Text], desk: &mut D, out: &mut K) -> Report
     // Where the desk tells what it holds under the script's name, the report and what was written are its answers, and after a fault
     // those to what was taken of the script.
-    ensures solved { (name bytes : List ℕ) → arguments.task_of words.now ≡ arguments.solves name → D.held desk.old name ≡ Some bytes
+    ensures solved { (strict : Bool) (name bytes : List ℕ) → arguments.task_of words.now ≡ arguments.solves strict name → D.held desk.old name ≡ Some bytes
         → (taken : ℕ) × Took result.status bytes taken (D.left desk.old slot.Script) (D.left desk.new slot.Script)
-        × Solves bytes taken result.status (kept_in result) result.errors.items (K.written out.old) (K.written out.new) }
+        × Solves (behavior_of strict) bytes taken result.status (kept_in result) result.errors.items (K.written out.old) (K.written out.new) }
     // The same of a derivation that is judged by a script.
     ensures audited { (proof script proof_bytes script_bytes : List ℕ) → arguments.task_of words.now ≡ arguments.audits proof script
         → D.held desk.old proof ≡ Some proof_bytes → D.held desk.old script ≡ Some script_bytes
@@ -55,13 +60,15 @@ pub fn run<D: Desk, K: Sink>(alloc: Global, words: &[Text], desk: &mut D, out: &
         → ReportsCounts count result.status (kept_in result) result.errors.items (K.written out.old) (K.written out.new) }
     ensures helped { arguments.task_of words.now ≡ arguments.helps
         → ReportsHelp result.status (kept_in result) result.errors.items (K.written out.old) (K.written out.new) }
+    ensures told_version { arguments.task_of words.now ≡ arguments.versions
+        → ReportsVersion result.status (kept_in result) result.errors.items (K.written out.old) (K.written out.new) }
     ensures usage { arguments.task_of words.now ≡ arguments.faulty
         → ReportsUsage result.status (kept_in result) result.errors.items (K.written out.old) (K.written out.new) }
 
     // Where the desk tells nothing, as that of the host, there are still bytes, whatever the status, of which the
     // report is right, and what was written where the sink tells it.
-    ensures some_script { (name : List ℕ) → arguments.task_of words.now ≡ arguments.solves name → (bytes : List ℕ) × (taken : ℕ)
-        × Solves bytes taken result.status (kept_in result) result.errors.items (K.written out.old) (K.written out.new) }
+    ensures some_script { (strict : Bool) (name : List ℕ) → arguments.task_of words.now ≡ arguments.solves strict name → (bytes : List ℕ) × (taken : ℕ)
+        × Solves (behavior_of strict) bytes taken result.status (kept_in result) result.errors.items (K.written out.old) (K.written out.new) }
     ensures some_files { (proof script : List ℕ) → arguments.task_of words.now ≡ arguments.audits proof script → (proof_bytes : List ℕ) × (script_bytes : List ℕ)
         × ReportsAudit proof_bytes script_bytes result.status (kept_in result) result.errors.items (K.written out.old) (K.written out.new) }
     ensures some_model { (model script : List ℕ) (number : ℕ) → arguments.task_of words.now ≡ arguments.audits_model model number script → (model_bytes : List ℕ) × (script_bytes : List ℕ)
@@ -102,7 +109,7 @@ fn perform<D: Desk, K: Sink>(alloc: Global, task: Task<'_>, desk: &mut D, out: &
     ensures sink_uncounted { result.status ≢ status.OutputFault → K.faults out.new ≡ K.faults out.old }
 {
     match task {
-        Task::Solve(name) => solve(alloc, name, desk, out),
+        Task::Solve { strict, script } => solve(alloc, behavior_of(strict), script, desk, out),
         Task::Audit { proof, script } => audit_files(alloc, proof, script, desk, out),
         Task::AuditModel {
             model,
@@ -110,7 +117,8 @@ fn perform<D: Desk, K: Sink>(alloc: Global, task: Task<'_>, desk: &mut D, out: &
             script,
         } => audit_model_files(alloc, model, number, script, desk, out),
         Task::Generate(count) => generate(alloc, count, out),
-        Task::Help => report_help(alloc, out),
+        Task::Help => tell(alloc, USAGE, out),
+        Task::Version => tell(alloc, VERSION, out),
         Task::Faulty => report_usage(alloc, out),
     }
 }
@@ -129,16 +137,27 @@ pub fn report_usage<K: Sink>(alloc: Global, out: &mut K) -> Report
     unanswered(alloc, status)
 }
 
-/// The same, where it was asked for.
-fn report_help<K: Sink>(alloc: Global, out: &mut K) -> Report
-    ensures reported { ReportsHelp result.status (kept_in result) result.errors.items (K.written out.old) (K.written out.new) }
+/// Writes a line that was asked for.
+fn tell<K: Sink>(alloc: Global, line: &str, out: &mut K) -> Report
+    ensures reported { Tells line.now result.status (kept_in result) result.errors.items (K.written out.old) (K.written out.new) }
     ensures output { result.status ≡ status.OutputFault → Rose (K.faults out.old) (K.faults out.new) }
     ensures count { K.faults out.old ≤ K.faults out.new }
     ensures uncounted { result.status ≢ status.OutputFault → K.faults out.new ≡ K.faults out.old }
 {
-    let status = match write_all(out, USAGE.as_bytes()) {
+    let status = match write_all(out, line.as_bytes()) {
         Ok(()) => Status::Done,
         Err(error) => status_of(error),
     };
     unanswered(alloc, status)
+}
+
+// What follows an error at the start of a script that is answered strictly, or not.
+fn behavior_of(strict: bool) -> ErrorBehavior
+    ensures value { result ≡ behavior_of strict }
+{
+    if strict {
+        ErrorBehavior::ImmediateExit
+    } else {
+        ErrorBehavior::ContinuedExecution
+    }
 }

@@ -1,12 +1,11 @@
-//! One command after another.
+//! Answers the complete commands, one after another.
 ghost use Rattle.std.specs.Prelude.{IfOk, IfErr};
 ghost use Rattle.ct_io.specs.Fault.{HasCause};
 ghost use Rattle.ct_run.specs.Progress.{progress, EndsWith, BrokeOff};
 
 use crate::answer::answer;
-use crate::report::ScriptError;
 use ct_io::{Sink, SinkError};
-use ct_script::Session;
+use ct_script::{ScriptError, Session};
 use ct_sexpr::{Next, ReadError, Reader, one_reading};
 
 /// How a script ends.

@@ -1,6 +1,6 @@
 -- What a command makes of the stack and the options is fixed by the stack and the options alone, and not by what was answered; so a
 -- replay changes them as the commands do.
-use Rattle.std.proofs.Common.{◌≡◌, ◌∙◌, ℕ, Bool, true, false, true≢false, List, [], ◌∷◌, ◌++◌, Option, None, Ok, Err, append_assoc, refl, sym, ap, subst, inl, inr}
+use Rattle.std.proofs.Common.{◌≡◌, ◌∙◌, ℕ, Bool, true, false, true≢false, ◌⊎◌, ◌||◌, List, [], ◌∷◌, ◌++◌, Option, None, Ok, Err, append_assoc, refl, sym, ap, subst, inl, inr}
 use Rattle.std.specs.Bool.{MatchBool}
 use Rattle.ct_formulas.specs.Formula.{Formula}
 use Rattle.ct_names.specs.Outcome.{Outcome, Elaborated}
@@ -11,7 +11,7 @@ use Rattle.ct_sexpr.specs.Text.{Located, Ending}
 use Rattle.ct_command.specs.Command.{Command, define_sort, declare_block, declare_fun, define_fun, assert, check_sat, check_sat_assuming, get_model, get_value, get_proof, get_unsat_core, get_unsat_assumptions}
 use Rattle.ct_command.specs.Reading.{Read, command}
 use Rattle.ct_step.specs.Evidence.{Evidence, no_evidence, followed_by}
-use Rattle.ct_step.proofs.EvidenceLemmas.{followed_assoc}
+use Rattle.ct_step.proofs.EvidenceLemmas.{nothing_earlier, followed_assoc}
 use Rattle.ct_engine.specs.declared.verdict.Verdict.{Verdict}
 use Rattle.ct_stack.specs.Stack.{Stack, declaring, in_context, asserting_as, defined_in}
 use Rattle.ct_stack.specs.Assuming.{assumptions}
@@ -30,7 +30,7 @@ use Rattle.ct_step.specs.Refusal.{IsRefusal}
 use Rattle.ct_step.specs.Step.{CommandEffect, Does, Steps, PrintsCore, said, quiet, decided, Step, counted, counted_by, one_more}
 use Rattle.ct_script.specs.Answers.{Answers, Leads, IsSilent, IsFollowed, errors_of, lines_of}
 use Rattle.ct_script.specs.Session.{Course}
-use Rattle.ct_script.specs.Replay.{is_check, is_assuming, IsCounted, IsPassedOver, IsStepped, Replays, GoesThrough, HaveOneStack, AnswersThrough}
+use Rattle.ct_script.specs.Replay.{is_check, awaits_verdict, is_undecided, IsCounted, IsPassedOver, IsStepped, Replays, GoesThrough, HaveOneStack, AnswersThrough, EndsUndecided}
 use Rattle.ct_stack.proofs.BlockLemmas.{one_types}
 use Rattle.ct_stack.proofs.NeededLemmas.{one_value}
 use Rattle.ct_step.proofs.SoundLemmas.{only, only_of, prints}
@@ -39,9 +39,9 @@ use Rattle.ct_step.proofs.SoundLemmas.{only, only_of, prints}
 abbrev pub AreAlike : CommandEffect → CommandEffect → Type 0
 AreAlike e f = HaveOneStack e.state f.state × (f.stop ≡ e.stop)
 
--- the effect leaves the stack and the options, and the script goes on
+-- the effect leaves the stack and the options
 abbrev pub Rests : State → CommandEffect → Type 0
-Rests s e = HaveOneStack s e.state × (e.stop ≡ false)
+Rests s e = HaveOneStack s e.state
 
 -- what equals alike effects is alike
 alike : {a b : CommandEffect} (e f : CommandEffect) → e ≡ a → f ≡ b → b.state.stack ≡ a.state.stack → b.state.options ≡ a.state.options → b.stop ≡ a.stop → AreAlike e f
@@ -49,8 +49,8 @@ alike {a = a} {b = b} e f is same stack options stop =
     subst (λ (x : CommandEffect). AreAlike x f) (sym is) (subst (λ (y : CommandEffect). AreAlike a y) (sym same) (record { stack = stack; options = options }, stop))
 
 -- what equals an effect that rests does so too
-rests : {a : CommandEffect} (s : State) (e : CommandEffect) → e ≡ a → a.state.stack ≡ s.stack → a.state.options ≡ s.options → a.stop ≡ false → Rests s e
-rests s e is stack options stop = subst (Rests s) (sym is) (record { stack = stack; options = options }, stop)
+rests : {a : CommandEffect} (s : State) (e : CommandEffect) → e ≡ a → a.state.stack ≡ s.stack → a.state.options ≡ s.options → Rests s e
+rests s e is stack options = subst (Rests s) (sym is) (record { stack = stack; options = options })
 
 -- the command only asks for something, or is a check
 abbrev pub asks : Command → Bool
@@ -65,27 +65,27 @@ asks c = false
 
 -- then it leaves the stack and the options
 done_rests : (s : State) (number : ℕ) (c : Command) (e : CommandEffect) → asks c ≡ true → Does s number c e → Rests s e
-done_rests s number check_sat e asking is = rests s e is.2 refl refl refl
-done_rests s number get_model e asking is = only_of (model_kept s.kept) (λ i. (text : List ℕ) × IsModelText (declared s) i text × (e ≡ said s text)) (Rests s e) (λ i h. rests s e h.2 refl refl refl) is
-done_rests s number (get_value ts) e asking is = only_of (model_kept s.kept) (λ i. (text : List ℕ) × AreValues (context_of s) i ts text × (e ≡ said s text)) (Rests s e) (λ i h. rests s e h.2 refl refl refl) is
-done_rests s number get_proof e asking is = only_of (derivation_kept s.kept) (λ p. e ≡ said s (text_of (expression_of_record (declared s) p.0 p.1.rec))) (Rests s e) (λ p h. rests s e h refl refl refl) is
-done_rests s number (check_sat_assuming ls) e asking is = only (assumptions (declared s) ls) (λ assumed. (v : Verdict) × ComesToVerdict (context_of s) (asked s assumed) (budget s.options) v × (e ≡ decided s None assumed v)) (Rests s e) (λ assumed h. rests s e h.2 refl refl refl) is
-done_rests s number get_unsat_core e asking is = only_of (refuted_kept s.kept) (λ refuted. PrintsCore s members.Names refuted e) (Rests s e) (λ refuted h. prints s members.Names refuted e (Rests s e) (λ text kept printed. rests s e printed refl refl refl) h) is
-done_rests s number get_unsat_assumptions e asking is = only_of (assuming_kept s.kept) (λ refuted. PrintsCore s members.Assumptions refuted e) (Rests s e) (λ refuted h. prints s members.Assumptions refuted e (Rests s e) (λ text kept printed. rests s e printed refl refl refl) h) is
+done_rests s number check_sat e asking is = rests s e is.2 refl refl
+done_rests s number get_model e asking is = only_of (model_kept s.kept) (λ i. (text : List ℕ) × IsModelText (declared s) i text × (e ≡ said s text)) (Rests s e) (λ i h. rests s e h.2 refl refl) is
+done_rests s number (get_value ts) e asking is = only_of (model_kept s.kept) (λ i. (text : List ℕ) × AreValues (context_of s) i ts text × (e ≡ said s text)) (Rests s e) (λ i h. rests s e h.2 refl refl) is
+done_rests s number get_proof e asking is = only_of (derivation_kept s.kept) (λ p. e ≡ said s (text_of (expression_of_record (declared s) p.0 p.1.rec))) (Rests s e) (λ p h. rests s e h refl refl) is
+done_rests s number (check_sat_assuming ls) e asking is = only (assumptions (declared s) ls) (λ assumed. (v : Verdict) × ComesToVerdict (context_of s) (asked s assumed) (budget s.options) v × (e ≡ decided s None assumed v)) (Rests s e) (λ assumed h. rests s e h.2 refl refl) is
+done_rests s number get_unsat_core e asking is = only_of (refuted_kept s.kept) (λ refuted. PrintsCore s members.Names refuted e) (Rests s e) (λ refuted h. prints s members.Names refuted e (Rests s e) (λ text kept printed. rests s e printed refl refl) h) is
+done_rests s number get_unsat_assumptions e asking is = only_of (assuming_kept s.kept) (λ refuted. PrintsCore s members.Assumptions refuted e) (Rests s e) (λ refuted h. prints s members.Assumptions refuted e (Rests s e) (λ text kept printed. rests s e printed refl refl) h) is
 done_rests s number c e asking is = absurd (true≢false (sym asking))
 
 -- where it is refused too
 asking_rests : (s : State) (number line : ℕ) (c : Command) (e : CommandEffect) → asks c ≡ true → Steps s number line (Ok c) e → Rests s e
-asking_rests s number line c e asking (inl h) = rests s e h.2 refl refl refl
+asking_rests s number line c e asking (inl h) = rests s e h.2 refl refl
 asking_rests s number line c e asking (inr h) = done_rests s number c e asking h.1
 
--- a state with other labels, which keeps something else
-abbrev beside : State → List (Option (List ℕ)) → Option Kept → State
-beside s labels kept = record s { labels = labels; kept = kept }
+-- a state with other labels and another diagnostic channel, which keeps something else
+abbrev beside : State → List (Option (List ℕ)) → List ℕ → Option Kept → State
+beside s labels channel kept = record s { labels = labels; diagnostic_output = channel; kept = kept }
 
-module _ (s : State) (labels : List (Option (List ℕ))) (kept : Option Kept) where
+module _ (s : State) (labels : List (Option (List ℕ))) (channel : List ℕ) (kept : Option Kept) where
   -- every other command is refused whatever was kept
-  refused_too : (c : Command) (n : ℕ) → asks c ≡ false → IsRefusal s c n → IsRefusal (beside s labels kept) c n
+  refused_too : (c : Command) (n : ℕ) → asks c ≡ false → IsRefusal s c n → IsRefusal (beside s labels channel kept) c n
   refused_too check_sat n other h = absurd (true≢false other)
   refused_too get_model n other h = absurd (true≢false other)
   refused_too (get_value ts) n other h = absurd (true≢false other)
@@ -96,25 +96,25 @@ module _ (s : State) (labels : List (Option (List ℕ))) (kept : Option Kept) wh
   refused_too c n other h = h
 
   -- a stack that is formed
-  formed : {X : Type 0} (o : Outcome X) (stack : X → Stack) (e f : CommandEffect) → Gives o (λ x. e ≡ quiet (changed s (stack x))) → Gives o (λ x. f ≡ quiet (changed (beside s labels kept) (stack x))) → AreAlike e f
+  formed : {X : Type 0} (o : Outcome X) (stack : X → Stack) (e f : CommandEffect) → Gives o (λ x. e ≡ quiet (changed s (stack x))) → Gives o (λ x. f ≡ quiet (changed (beside s labels channel kept) (stack x))) → AreAlike e f
   formed (Ok x) stack e f is same = alike e f is same refl refl refl
   formed (Err n) stack e f is same = absurd is
 
   -- one that is formed with the sorts that it needs
-  formed_needing : {X : Type 0} → AddSame → (o : Declarations → Elaborated X) (d : Declarations) (stack : Declarations → X → Stack) (e f : CommandEffect) → GivesNeeding o d (λ later x. e ≡ quiet (changed s (stack later x))) → GivesNeeding o d (λ later x. f ≡ quiet (changed (beside s labels kept) (stack later x))) → AreAlike e f
+  formed_needing : {X : Type 0} → AddSame → (o : Declarations → Elaborated X) (d : Declarations) (stack : Declarations → X → Stack) (e f : CommandEffect) → GivesNeeding o d (λ later x. e ≡ quiet (changed s (stack later x))) → GivesNeeding o d (λ later x. f ≡ quiet (changed (beside s labels channel kept) (stack later x))) → AreAlike e f
   formed_needing {X} add_same o d stack e f (later, x, comes, is) (last, y, also, same) =
       let one = one_value add_same o d later last x y comes also in
       alike e f is same (ap (λ (n : Declarations). stack n y) one.0 ∙ ap (λ (z : X). stack later z) one.1) refl refl
 
   -- one that is asserted with a label
-  asserted_alike : AddSame → (label : Option (List ℕ)) → (o : Declarations → Elaborated Formula) (d : Declarations) (e f : CommandEffect) → GivesNeeding o d (λ later x. e ≡ quiet (asserted s (declaring s.stack later) label x)) → GivesNeeding o d (λ later x. f ≡ quiet (asserted (beside s labels kept) (declaring s.stack later) label x)) → AreAlike e f
+  asserted_alike : AddSame → (label : Option (List ℕ)) → (o : Declarations → Elaborated Formula) (d : Declarations) (e f : CommandEffect) → GivesNeeding o d (λ later x. e ≡ quiet (asserted s (declaring s.stack later) label x)) → GivesNeeding o d (λ later x. f ≡ quiet (asserted (beside s labels channel kept) (declaring s.stack later) label x)) → AreAlike e f
   asserted_alike add_same label o d e f (later, x, comes, is) (last, y, also, same) =
       let one = one_value add_same o d later last x y comes also in
       alike e f is same
       (ap (λ (n : Declarations). asserting_as (declaring s.stack n) label y) one.0 ∙ ap (λ (z : Formula). asserting_as (declaring s.stack later) label z) one.1) refl refl
 
   -- and does the same
-  done_alike : AddSame → (number count : ℕ) (c : Command) (e f : CommandEffect) → asks c ≡ false → Does s number c e → Does (beside s labels kept) count c f → AreAlike e f
+  done_alike : AddSame → (number count : ℕ) (c : Command) (e f : CommandEffect) → asks c ≡ false → Does s number c e → Does (beside s labels channel kept) count c f → AreAlike e f
   done_alike add_same number count (define_sort name params body) e f other is same = formed (synonym_body (declared s) params body) (λ x. declaring s.stack (with_synonym_of (declared s) name params x)) e f is same
   done_alike add_same number count (declare_block family heads bodies) e f other is same = alike e f is.2 same.2 (ap (λ (d : Declarations). declaring s.stack d) (one_types add_same (declared s) family heads bodies is.0 same.0 is.1 same.1)) refl refl
   done_alike add_same number count (declare_fun name args sort) e f other is same = formed_needing add_same (λ d. declared_function d name args sort) (declared s) (λ later x. declaring s.stack (with_function later x)) e f is same
@@ -130,37 +130,60 @@ module _ (s : State) (labels : List (Option (List ℕ))) (kept : Option Kept) wh
   done_alike add_same number count c e f other is same = alike e f is same refl refl refl
 
 -- so it does where it is refused too
-other_alike : AddSame → (s : State) (labels : List (Option (List ℕ))) (kept : Option Kept) (number count line : ℕ) (c : Command) (e f : CommandEffect) → asks c ≡ false → Steps s number line (Ok c) e → Steps (beside s labels kept) count line (Ok c) f → AreAlike e f
-other_alike add_same s labels kept number count line c e f other (inl h) (inl k) = alike e f h.2 k.2 refl refl refl
-other_alike add_same s labels kept number count line c e f other (inl h) (inr k) = absurd (k.0 h.0 (refused_too s labels kept c h.0 other h.1))
-other_alike add_same s labels kept number count line c e f other (inr h) (inl k) = absurd (h.0 k.0 (refused_too (beside s labels kept) s.labels s.kept c k.0 other k.1))
-other_alike add_same s labels kept number count line c e f other (inr h) (inr k) = done_alike s labels kept add_same number count c e f other h.1 k.1
+other_alike : AddSame → (s : State) (labels : List (Option (List ℕ))) (channel : List ℕ) (kept : Option Kept) (number count line : ℕ) (c : Command) (e f : CommandEffect) → asks c ≡ false → Steps s number line (Ok c) e → Steps (beside s labels channel kept) count line (Ok c) f → AreAlike e f
+other_alike add_same s labels channel kept number count line c e f other (inl h) (inl k) = alike e f h.2 k.2 refl refl refl
+other_alike add_same s labels channel kept number count line c e f other (inl h) (inr k) = absurd (k.0 h.0 (refused_too s labels channel kept c h.0 other h.1))
+other_alike add_same s labels channel kept number count line c e f other (inr h) (inl k) = absurd (h.0 k.0 (refused_too (beside s labels channel kept) s.labels s.diagnostic_output s.kept c k.0 other k.1))
+other_alike add_same s labels channel kept number count line c e f other (inr h) (inr k) = done_alike s labels channel kept add_same number count c e f other h.1 k.1
 
--- effects that rest are alike
-resting : (s : State) (labels : List (Option (List ℕ))) (kept : Option Kept) (e f : CommandEffect) → Rests s e → Rests (beside s labels kept) f → AreAlike e f
-resting s labels kept e f h k = (record { stack = k.0.stack ∙ sym h.0.stack; options = k.0.options ∙ sym h.0.options }, k.1 ∙ sym h.1)
+-- effects that rest leave one stack
+resting : (s : State) (labels : List (Option (List ℕ))) (channel : List ℕ) (kept : Option Kept) (e f : CommandEffect) → Rests s e → Rests (beside s labels channel kept) f → HaveOneStack e.state f.state
+resting s labels channel kept e f h k = record { stack = k.stack ∙ sym h.stack; options = k.options ∙ sym h.options }
 
 -- a command, whether it asks or not
-command_alike : AddSame → (s : State) (labels : List (Option (List ℕ))) (kept : Option Kept) (number count line : ℕ) (c : Command) (e f : CommandEffect) (asking : Bool) → asks c ≡ asking → Steps s number line (Ok c) e → Steps (beside s labels kept) count line (Ok c) f → AreAlike e f
-command_alike add_same s labels kept number count line c e f true is h k = resting s labels kept e f (asking_rests s number line c e is h) (asking_rests (beside s labels kept) count line c f is k)
-command_alike add_same s labels kept number count line c e f false is h k = other_alike add_same s labels kept number count line c e f is h k
+command_one : AddSame → (s : State) (labels : List (Option (List ℕ))) (channel : List ℕ) (kept : Option Kept) (number count line : ℕ) (c : Command) (e f : CommandEffect) (asking : Bool) → asks c ≡ asking → Steps s number line (Ok c) e → Steps (beside s labels channel kept) count line (Ok c) f → HaveOneStack e.state f.state
+command_one add_same s labels channel kept number count line c e f true is h k = resting s labels channel kept e f (asking_rests s number line c e is h) (asking_rests (beside s labels channel kept) count line c f is k)
+command_one add_same s labels channel kept number count line c e f false is h k = (other_alike add_same s labels channel kept number count line c e f is h k).0
 
 -- what was read, whether it is a command or not
-read_alike : AddSame → (s : State) (labels : List (Option (List ℕ))) (kept : Option Kept) (number count line : ℕ) (read : Read) (e f : CommandEffect) → Steps s number line read e → Steps (beside s labels kept) count line read f → AreAlike e f
-read_alike add_same s labels kept number count line (Err n) e f h k = alike e f h k refl refl refl
-read_alike add_same s labels kept number count line (Ok c) e f h k = command_alike add_same s labels kept number count line c e f (asks c) refl h k
+read_one : AddSame → (s : State) (labels : List (Option (List ℕ))) (channel : List ℕ) (kept : Option Kept) (number count line : ℕ) (read : Read) (e f : CommandEffect) → Steps s number line read e → Steps (beside s labels channel kept) count line read f → HaveOneStack e.state f.state
+read_one add_same s labels channel kept number count line (Err n) e f h k = (alike e f h k refl refl refl).0
+read_one add_same s labels channel kept number count line (Ok c) e f h k = command_one add_same s labels channel kept number count line c e f (asks c) refl h k
 
--- the second state is the first with its own labels and what it has kept itself
-same_beside : (s t : State) → HaveOneStack s t → beside s t.labels t.kept ≡ t
+-- what asks is a check or awaits a verdict
+asks_undecided : (c : Command) → asks c ≡ is_undecided (Ok c)
+asks_undecided check_sat = refl
+asks_undecided get_model = refl
+asks_undecided (get_value ts) = refl
+asks_undecided get_proof = refl
+asks_undecided (check_sat_assuming ls) = refl
+asks_undecided get_unsat_core = refl
+asks_undecided get_unsat_assumptions = refl
+asks_undecided c = refl
+
+-- and everything else ends the script whatever was kept
+read_stops : AddSame → (s : State) (labels : List (Option (List ℕ))) (channel : List ℕ) (kept : Option Kept) (number count line : ℕ) (read : Read) (e f : CommandEffect) → is_undecided read ≡ false → Steps s number line read e → Steps (beside s labels channel kept) count line read f → f.stop ≡ e.stop
+read_stops add_same s labels channel kept number count line (Err n) e f decided h k = (alike e f h k refl refl refl).1
+read_stops add_same s labels channel kept number count line (Ok c) e f decided h k = (other_alike add_same s labels channel kept number count line c e f (asks_undecided c ∙ decided) h k).1
+
+-- the second state is the first with its own labels and channel and what it has kept itself
+same_beside : (s t : State) → HaveOneStack s t → beside s t.labels t.diagnostic_output t.kept ≡ t
 same_beside s t one = sym (
-    ap (λ (stack : Stack). record { stack = stack; labels = t.labels; options = t.options; kept = t.kept }) one.stack
-    ∙ ap (λ (options : Options). record { stack = s.stack; labels = t.labels; options = options; kept = t.kept }) one.options
+    ap (λ (stack : Stack). record { stack = stack; labels = t.labels; options = t.options; diagnostic_output = t.diagnostic_output; kept = t.kept }) one.stack
+    ∙ ap (λ (options : Options). record { stack = s.stack; labels = t.labels; options = options; diagnostic_output = t.diagnostic_output; kept = t.kept }) one.options
     )
 
--- one stack and one list of options lead to one stack and one list of options
-pub steps_alike : AddSame → (s t : State) (number count line : ℕ) (read : Read) (e f : CommandEffect) → HaveOneStack s t → Steps s number line read e → Steps t count line read f → HaveOneStack e.state f.state × (f.stop ≡ e.stop)
-steps_alike add_same s t number count line read e f one h k =
-    read_alike add_same s t.labels t.kept number count line read e f h (subst (λ (x : State). Steps x count line read f) (sym (same_beside s t one)) k)
+module _ (add_same : AddSame) (s t : State) (number count line : ℕ) (read : Read) (e f : CommandEffect) (one : HaveOneStack s t) (h : Steps s number line read e) (k : Steps t count line read f) where
+  besides : Steps (beside s t.labels t.diagnostic_output t.kept) count line read f
+  besides = subst (λ (x : State). Steps x count line read f) (sym (same_beside s t one)) k
+
+  -- one stack and one list of options lead to one stack and one list of options
+  pub steps_one : HaveOneStack e.state f.state
+  steps_one = read_one add_same s t.labels t.diagnostic_output t.kept number count line read e f h besides
+
+  -- and to the end of the script
+  pub steps_stop : is_undecided read ≡ false → f.stop ≡ e.stop
+  steps_stop decided = read_stops add_same s t.labels t.diagnostic_output t.kept number count line read e f decided h besides
 
 -- a check only asks
 check_asks : (c : Command) → is_check (Ok c) ≡ true → asks c ≡ true
@@ -168,44 +191,63 @@ check_asks check_sat check = refl
 check_asks c check = absurd (true≢false (sym check))
 
 -- so it leaves the stack and the options
-pub check_rests : (s : State) (number line : ℕ) (read : Read) (e : CommandEffect) → is_check read ≡ true → Steps s number line read e → HaveOneStack s e.state × (e.stop ≡ false)
+pub check_rests : (s : State) (number line : ℕ) (read : Read) (e : CommandEffect) → is_check read ≡ true → Steps s number line read e → HaveOneStack s e.state
 check_rests s number line (Err n) e check h = absurd (true≢false (sym check))
 check_rests s number line (Ok c) e check h = asking_rests s number line c e (check_asks c check) h
 
--- a check with assumptions only asks too
-assuming_asks : (c : Command) → is_assuming (Ok c) ≡ true → asks c ≡ true
-assuming_asks (check_sat_assuming ls) assuming = refl
-assuming_asks c assuming = absurd (true≢false (sym assuming))
+-- what awaits a verdict only asks too
+awaiting_asks : (c : Command) → awaits_verdict (Ok c) ≡ true → asks c ≡ true
+awaiting_asks get_model awaits = refl
+awaiting_asks (get_value ts) awaits = refl
+awaiting_asks get_proof awaits = refl
+awaiting_asks (check_sat_assuming ls) awaits = refl
+awaiting_asks get_unsat_core awaits = refl
+awaiting_asks get_unsat_assumptions awaits = refl
+awaiting_asks c awaits = absurd (true≢false (sym awaits))
 
-assuming_rests : (s : State) (number line : ℕ) (read : Read) (e : CommandEffect) → is_assuming read ≡ true → Steps s number line read e → HaveOneStack s e.state × (e.stop ≡ false)
-assuming_rests s number line (Err n) e assuming h = absurd (true≢false (sym assuming))
-assuming_rests s number line (Ok c) e assuming h = asking_rests s number line c e (assuming_asks c assuming) h
+awaiting_rests : (s : State) (number line : ℕ) (read : Read) (e : CommandEffect) → awaits_verdict read ≡ true → Steps s number line read e → HaveOneStack s e.state
+awaiting_rests s number line (Err n) e awaits h = absurd (true≢false (sym awaits))
+awaiting_rests s number line (Ok c) e awaits h = asking_rests s number line c e (awaiting_asks c awaits) h
+
+-- neither is decided
+check_undecided : (read : Read) → is_check read ≡ true → is_undecided read ≡ true
+check_undecided read check = ap (λ (b : Bool). b || awaits_verdict read) check
+
+or_true : (a : Bool) → (a || true) ≡ true
+or_true true = refl
+or_true false = refl
+
+awaiting_undecided : (read : Read) → awaits_verdict read ≡ true → is_undecided read ≡ true
+awaiting_undecided read awaits = ap (λ (b : Bool). is_check read || b) awaits ∙ or_true (is_check read)
 
 -- what is read is replayed beside its step
 module _ (add_same : AddSame) (s : State) (number : ℕ) (old new : Course) (line : ℕ) (read : Read) (e : CommandEffect) (r : Replayed) (one : HaveOneStack s old.state) (steps : Steps s number line read e) where
+  -- one stack, and one end where no verdict matters
+  abbrev IsAlike : Type 0
+  IsAlike = HaveOneStack e.state new.state × (is_undecided read ≡ false → r.stop ≡ e.stop)
+
   -- where the replay changes nothing, as the step does
-  left_alone : Rests s e → new.state ≡ old.state → r.stop ≡ false → HaveOneStack e.state new.state × (r.stop ≡ e.stop)
-  left_alone rest state stop = (
+  left_alone : Rests s e → new.state ≡ old.state → is_undecided read ≡ true → IsAlike
+  left_alone rest state undecided = (
     record {
-      stack = ap (λ (x : State). x.stack) state ∙ one.stack ∙ sym rest.0.stack;
-      options = ap (λ (x : State). x.options) state ∙ one.options ∙ sym rest.0.options;
+      stack = ap (λ (x : State). x.stack) state ∙ one.stack ∙ sym rest.stack;
+      options = ap (λ (x : State). x.options) state ∙ one.options ∙ sym rest.options;
     },
-    stop ∙ sym rest.1,
+    λ decided. absurd (true≢false (sym undecided ∙ decided)),
   )
 
-  replayed_otherwise : (assuming : Bool) → is_assuming read ≡ assuming → MatchBool assuming (IsPassedOver old new r) (IsStepped old line read new r) → HaveOneStack e.state new.state × (r.stop ≡ e.stop)
-  replayed_otherwise true assuming (is, checked, stop) = left_alone (assuming_rests s number line read e assuming steps) (ap (λ (c : Course). c.state) is) stop
-  replayed_otherwise false assuming (f, stepped, is, checked, stop) =
-      let same : AreAlike e f = steps_alike add_same s old.state number old.number line read e f one steps stepped in (
-        subst (λ (x : State). HaveOneStack e.state x) (sym (ap (λ (c : Course). c.state) is)) same.0,
-        stop ∙ same.1,
-      )
+  replayed_otherwise : (awaits : Bool) → awaits_verdict read ≡ awaits → MatchBool awaits (IsPassedOver old new r) (IsStepped old line read new r) → IsAlike
+  replayed_otherwise true awaits (is, checked, stop) = left_alone (awaiting_rests s number line read e awaits steps) (ap (λ (c : Course). c.state) is) (awaiting_undecided read awaits)
+  replayed_otherwise false awaits (f, stepped, is, checked, stop) = (
+    subst (λ (x : State). HaveOneStack e.state x) (sym (ap (λ (c : Course). c.state) is)) (steps_one add_same s old.state number old.number line read e f one steps stepped),
+    λ decided. stop ∙ steps_stop add_same s old.state number old.number line read e f one steps stepped decided,
+  )
 
-  replayed_by : (check : Bool) → is_check read ≡ check → MatchBool check (IsCounted old new r) (MatchBool (is_assuming read) (IsPassedOver old new r) (IsStepped old line read new r)) → HaveOneStack e.state new.state × (r.stop ≡ e.stop)
-  replayed_by true check (is, checked, stop) = left_alone (check_rests s number line read e check steps) (ap (λ (c : Course). c.state) is) stop
-  replayed_by false check h = replayed_otherwise (is_assuming read) refl h
+  replayed_by : (check : Bool) → is_check read ≡ check → MatchBool check (IsCounted old new r) (MatchBool (awaits_verdict read) (IsPassedOver old new r) (IsStepped old line read new r)) → IsAlike
+  replayed_by true check (is, checked, stop) = left_alone (check_rests s number line read e check steps) (ap (λ (c : Course). c.state) is) (check_undecided read check)
+  replayed_by false check h = replayed_otherwise (awaits_verdict read) refl h
 
-  pub replayed_alike : Replays old line read new r → HaveOneStack e.state new.state × (r.stop ≡ e.stop)
+  pub replayed_alike : Replays old line read new r → IsAlike
   replayed_alike h = replayed_by (is_check read) refl h
 
 -- a command that is no check is not counted
@@ -225,9 +267,9 @@ counted_otherwise : (old new : Course) (line : ℕ) (read : Read) (r : Replayed)
 counted_otherwise old new line read r true other (is, checked, stop) = ap (λ (c : Course). c.number) is ∙ sym (uncounted old.number read other)
 counted_otherwise old new line read r false other (f, stepped, is, checked, stop) = ap (λ (c : Course). c.number) is ∙ sym (uncounted old.number read other)
 
-counted_with_check : (old new : Course) (line : ℕ) (read : Read) (r : Replayed) (check : Bool) → is_check read ≡ check → MatchBool check (IsCounted old new r) (MatchBool (is_assuming read) (IsPassedOver old new r) (IsStepped old line read new r)) → new.number ≡ counted_by old.number read
+counted_with_check : (old new : Course) (line : ℕ) (read : Read) (r : Replayed) (check : Bool) → is_check read ≡ check → MatchBool check (IsCounted old new r) (MatchBool (awaits_verdict read) (IsPassedOver old new r) (IsStepped old line read new r)) → new.number ≡ counted_by old.number read
 counted_with_check old new line read r true check (is, checked, stop) = ap (λ (c : Course). c.number) is ∙ sym (check_counted old.number read check)
-counted_with_check old new line read r false check h = counted_otherwise old new line read r (is_assuming read) check h
+counted_with_check old new line read r false check h = counted_otherwise old new line read r (awaits_verdict read) check h
 
 pub replayed_counted : (old new : Course) (line : ℕ) (read : Read) (r : Replayed) → Replays old line read new r → new.number ≡ counted_by old.number read
 replayed_counted old new line read r h = counted_with_check old new line read r (is_check read) refl h
@@ -237,9 +279,9 @@ told_otherwise : (old new : Course) (line : ℕ) (read : Read) (r : Replayed) (a
 told_otherwise old new line read r true (is, checked, stop) = checked
 told_otherwise old new line read r false (f, stepped, is, checked, stop) = checked
 
-told_by : (old new : Course) (line : ℕ) (read : Read) (r : Replayed) (check : Bool) → is_check read ≡ check → MatchBool check (IsCounted old new r) (MatchBool (is_assuming read) (IsPassedOver old new r) (IsStepped old line read new r)) → r.check ≡ is_check read
+told_by : (old new : Course) (line : ℕ) (read : Read) (r : Replayed) (check : Bool) → is_check read ≡ check → MatchBool check (IsCounted old new r) (MatchBool (awaits_verdict read) (IsPassedOver old new r) (IsStepped old line read new r)) → r.check ≡ is_check read
 told_by old new line read r true check (is, checked, stop) = checked ∙ sym check
-told_by old new line read r false check h = told_otherwise old new line read r (is_assuming read) h ∙ sym check
+told_by old new line read r false check h = told_otherwise old new line read r (awaits_verdict read) h ∙ sym check
 
 pub replayed_told : (old new : Course) (line : ℕ) (read : Read) (r : Replayed) → Replays old line read new r → r.check ≡ is_check read
 replayed_told old new line read r h = told_by old new line read r (is_check read) refl h
@@ -276,9 +318,35 @@ through_one s number c first others ending kept vs errors es lines ls e last cou
   lines_are = followed.lines_are ∙ ap (λ (xs : List (List ℕ)). lines_of e.text ++ xs) later.lines_are ∙ sym (append_assoc (lines_of e.text) later.first_lines later.later_lines);
 }
 
--- answers begin with those to the commands that a replay goes through
-pub answers_through : AddSame → (s : State) (number : ℕ) (first others : List Located) (ending : Ending) (kept : Evidence) (errors : List (ℕ × ℕ)) (lines : List (List ℕ)) (old new : Course) → Answers s number (first ++ others) ending kept errors lines → GoesThrough old first new → HaveOneStack s old.state → (last : State) × (count : ℕ) × AnswersThrough s number first others ending kept errors lines last count
-answers_through add_same s number [] others ending kept errors lines old new answers through one = (
+-- an outcome of answers to commands that a replay goes through: they go through them too, or end at one of these
+abbrev pub GoOrEnd : State → ℕ → List Located → List Located → Ending → Evidence → List (ℕ × ℕ) → List (List ℕ) → Type 0
+GoOrEnd s number first others ending kept errors lines =
+    ((last : State) × (count : ℕ) × AnswersThrough s number first others ending kept errors lines last count) ⊎ EndsUndecided s number first kept errors lines
+
+-- after the first of these commands
+module _ (s : State) (number : ℕ) (c : Located) (first others : List Located) (ending : Ending) (kept vs : Evidence) (errors es : List (ℕ × ℕ)) (lines ls : List (List ℕ)) (e : CommandEffect) (step : Step s number c.line c.command e) (followed : IsFollowed c.line e kept vs errors es lines ls) where
+  abbrev Rest : Bool → Type 0
+  Rest stop = MatchBool stop (IsSilent vs es ls) (Answers e.state (counted number c.command) (first ++ others) ending vs es ls)
+
+  abbrev Ends : Bool → Type 0
+  Ends stop = MatchBool stop ((is_undecided (command c.command) ≡ true) × IsSilent vs es ls) (EndsUndecided e.state (counted number c.command) first vs es ls)
+
+  ends_with : (stop : Bool) → e.stop ≡ stop → Ends stop → GoOrEnd s number (c ∷ first) others ending kept errors lines
+  ends_with stop is ends = inr (e, vs, es, ls, step, followed, subst Ends (sym is) ends)
+
+  goes_on : e.stop ≡ false → GoOrEnd e.state (counted number c.command) first others ending vs es ls → GoOrEnd s number (c ∷ first) others ending kept errors lines
+  goes_on on (inl later) = inl (later.0, later.1, through_one s number c first others ending kept vs errors es lines ls e later.0 later.1 step followed on later.2)
+  goes_on on (inr ends) = ends_with false on ends
+
+  -- where the replay goes on
+  by_end : (r : Replayed) → r.stop ≡ false → (is_undecided (command c.command) ≡ false → r.stop ≡ e.stop) → (Answers e.state (counted number c.command) (first ++ others) ending vs es ls → GoOrEnd e.state (counted number c.command) first others ending vs es ls) → (stop : Bool) → e.stop ≡ stop → Rest stop → (undecided : Bool) → is_undecided (command c.command) ≡ undecided → GoOrEnd s number (c ∷ first) others ending kept errors lines
+  by_end r on alike later false is rest undecided either = goes_on is (later rest)
+  by_end r on alike later true is rest true either = ends_with true is (either, rest)
+  by_end r on alike later true is rest false either = absurd (true≢false (sym is ∙ sym (alike either) ∙ on))
+
+-- answers begin with those to the commands that a replay goes through, or end at one of them
+pub answers_through : AddSame → (s : State) (number : ℕ) (first others : List Located) (ending : Ending) (kept : Evidence) (errors : List (ℕ × ℕ)) (lines : List (List ℕ)) (old new : Course) → Answers s number (first ++ others) ending kept errors lines → GoesThrough old first new → HaveOneStack s old.state → GoOrEnd s number first others ending kept errors lines
+answers_through add_same s number [] others ending kept errors lines old new answers through one = inl (
   s,
   number,
   record {
@@ -290,15 +358,14 @@ answers_through add_same s number [] others ending kept errors lines old new ans
     later_lines = lines;
     leads = (refl, refl, record { nothing_kept = refl; no_error = refl; no_line = refl });
     answers = answers;
-    kept_is = refl;
+    kept_is = sym (nothing_earlier kept);
     errors_are = refl;
     lines_are = refl;
   },
 )
 answers_through add_same s number (c ∷ first) others ending kept errors lines old new (e, vs, es, ls, step, followed, rest) (next, r, replays, on, through) one =
     let count : ℕ = counted number c.command in
-    let same : HaveOneStack e.state next.state × (r.stop ≡ e.stop) = replayed_alike add_same s count old next c.line (command c.command) e r one step replays in
-    let goes_on : e.stop ≡ false = sym same.1 ∙ on in
-    let more : Answers e.state count (first ++ others) ending vs es ls = subst (λ (b : Bool). MatchBool b (IsSilent vs es ls) (Answers e.state count (first ++ others) ending vs es ls)) goes_on rest in
-    let later : (last : State) × (total : ℕ) × AnswersThrough e.state count first others ending vs es ls last total = answers_through add_same e.state count first others ending vs es ls next new more through same.0 in
-    (later.0, later.1, through_one s number c first others ending kept vs errors es lines ls e later.0 later.1 step followed goes_on later.2)
+    let same = replayed_alike add_same s count old next c.line (command c.command) e r one step replays in
+    by_end s number c first others ending kept vs errors es lines ls e step followed r on same.1
+    (λ more. answers_through add_same e.state count first others ending vs es ls next new more through same.0)
+    e.stop refl rest (is_undecided (command c.command)) refl

@@ -6,7 +6,7 @@ use Rattle.ct_sorts.specs.Declarations.{with_function}
 use Rattle.ct_model.specs.ModelText.{IsModelText}
 use Rattle.ct_log_text.specs.Written.{expression_of_record, text_of}
 use Rattle.ct_kept.specs.Kept.{Stored}
-use Rattle.ct_command.specs.Command.{Command, set_logic, set_option, get_option, set_info, get_info, declare_sort, define_sort, declare_block, declare_fun, define_fun, assert, check_sat, check_sat_assuming, push, pop, reset_assertions, reset, get_model, get_value, get_proof, get_unsat_core, get_unsat_assumptions, echo, exit, unsupported}
+use Rattle.ct_command.specs.Command.{Command, set_logic, set_option, set_diagnostic_output, get_option, set_info, get_info, declare_sort, define_sort, declare_block, declare_fun, define_fun, assert, check_sat, check_sat_assuming, push, pop, reset_assertions, reset, get_model, get_value, get_proof, get_unsat_core, get_unsat_assumptions, echo, exit, unsupported}
 use Rattle.ct_command.specs.Reading.{Read, command}
 use Rattle.ct_step.specs.Evidence.{Evidence, no_evidence, followed_by}
 use Rattle.ct_step.proofs.EvidenceLemmas.{both_same, nothing_later}
@@ -36,6 +36,7 @@ error_of e t none is = ap (λ (x : CommandEffect). x.error) is ∙ none
 pub no_error : (s : State) (number : ℕ) (c : Command) (e : CommandEffect) → Does s number c e → e.error ≡ None
 no_error s number (set_logic name) e is = error_of e _ refl is
 no_error s number (set_option setting) e is = error_of e _ refl is
+no_error s number (set_diagnostic_output text) e is = error_of e _ refl is
 no_error s number (get_option option) e is = error_of e _ refl is
 no_error s number set_info e is = error_of e _ refl is
 no_error s number (get_info info) e is = error_of e _ refl is
@@ -98,7 +99,7 @@ module _ (old : SessionState) (old_number : ℕ) (errors : List (ℕ × ℕ)) (s
         same : course new number new_errors left ≡ reached before line number (refused (state_of old) line code) left
         same =
             ap (λ (s : State). record { state = s; number = number; evidence = evidence_of new; errors = new_errors; store = left }) (same_state old new unchanged)
-            ∙ ap (λ (kept : Evidence). record { state = state_of old; number = number; evidence = kept; errors = new_errors; store = left }) (both_same _ _ _ _ unchanged.verdicts unchanged.shrunk ∙ sym (nothing_later (evidence_of old)))
+            ∙ ap (λ (kept : Evidence). record { state = state_of old; number = number; evidence = kept; errors = new_errors; store = left }) (both_same _ _ _ _ _ _ unchanged.responses unchanged.last unchanged.shrunk ∙ sym (nothing_later (evidence_of old)))
             ∙ ap (λ (es : List (ℕ × ℕ)). record { state = state_of old; number = number; evidence = followed_by (evidence_of old) no_evidence; errors = es; store = left }) stored
 
   -- by an expression that is no command

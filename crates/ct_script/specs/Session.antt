@@ -2,8 +2,10 @@
 use Rattle.std.specs.Prelude.{ℕ, List, [], ◌++◌}
 use Rattle.ct_sexpr.specs.Expression.{Expression}
 use Rattle.ct_kept.specs.Kept.{Stored}
+use Rattle.ct_command.specs.declared.option.ErrorBehavior.{ErrorBehavior}
+use Rattle.ct_command.specs.declared.option.ErrorBehavior.TheVariants.{ContinuedExecution}
 use Rattle.ct_step.specs.Evidence.{Evidence, no_evidence, followed_by}
-use Rattle.ct_step.specs.State.{State, first_state}
+use Rattle.ct_step.specs.State.{State, starting}
 use Rattle.ct_step.specs.Step.{CommandEffect, counted}
 use Rattle.ct_step.specs.Store.{first_store}
 use Rattle.ct_script.specs.Answers.{errors_of}
@@ -17,9 +19,13 @@ pub record Course : Type 0 where
   pub errors : List (ℕ × ℕ)
   pub store : Stored
 
--- at the start
+-- at the start, where this follows an error
+abbrev pub starting_course : ErrorBehavior → Course
+starting_course behavior = record { state = starting behavior; number = 0; evidence = no_evidence; errors = []; store = first_store }
+
+-- the same where a script goes on after an error
 abbrev pub first_course : Course
-first_course = record { state = first_state; number = 0; evidence = no_evidence; errors = []; store = first_store }
+first_course = starting_course ContinuedExecution
 
 -- what it comes to by a command on this line with this effect, after so many checks, which leaves this store
 abbrev pub reached : Course → ℕ → ℕ → CommandEffect → Stored → Course

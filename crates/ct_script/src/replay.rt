@@ -1,4 +1,4 @@
-//! What is told of a command that is replayed.
+//! What a replay returns for a command.
 
 /// What is told of a command that is replayed.
 #[derive(Clone, Copy, Debug, PartialEq, Eq)]

@@ -1,4 +1,4 @@
-//! The session: commands in order, with the verdicts and the errors that they gave.
+//! The session: commands in order, with the answers and the errors that they gave.
 ghost use Rattle.std.specs.Prelude.{◌≡◌, map, None, Ok, IfOk, OnErr};
 ghost use Rattle.ct_sexpr.specs.View.{expression_of};
 ghost use Rattle.ct_formulas.specs.TreeFormula.{formula_of};
@@ -9,28 +9,42 @@ ghost use Rattle.ct_stack.specs.Held.{context_in, as_one, IsSoundLevel, IsHeld};
 ghost use Rattle.ct_step.specs.State.{first_state, context_of};
 ghost use Rattle.ct_step.specs.Store.{first_store, IsStoreOf, StoresBy};
 ghost use Rattle.ct_step.specs.Evidence.{no_evidence};
-ghost use Rattle.ct_script.specs.Replay.{Replays, is_check, is_assuming};
+ghost use Rattle.ct_script.specs.Replay.{Replays, is_check, awaits_verdict};
 ghost use Rattle.ct_step.specs.Done.{IsAnswer};
-ghost use Rattle.ct_script.specs.Session.{after, first_course, reached};
+ghost use Rattle.ct_script.specs.Given.{evidence_in};
+ghost use Rattle.ct_script.specs.Session.{after, starting_course, reached};
 ghost use Rattle.ct_step.specs.Step.{CommandEffect, Step, Steps, counted_with, one_more};
 
 use crate::error::SessionError;
 use crate::replay::Replayed;
 use ct_check::Scope;
-use ct_command::{Command, CommandError, command_of};
+use ct_command::{Command, CommandError, ErrorBehavior, command_of};
 use ct_engine::{Kept, Verdict};
 use ct_formulas::Tree;
 use ct_sexpr::Sexpr;
 use ct_shrink::Shrunk;
 use ct_sorts::growth;
 use ct_stack::{AssertionStack, ModelValues};
-use ct_step::{Answer, Options, SessionState, perform, refused};
+use ct_step::{Answer, CheckResponse, Options, SessionState, perform, refused};
 use ct_terms::{TermId, TermTable};
 use std::alloc::Global;
 use std::marker::Model;
 
 /// An error of a script: its line, counted from 1, and its number.
 pub type ScriptError = (u64, u16);
+
+/// What a session gave.
+#[derive(Drop)]
+pub struct Given {
+    /// The answers of its checks, in order.
+    pub responses: Vec<CheckResponse>,
+    /// Its errors, in order.
+    pub errors: Vec<ScriptError>,
+    /// The last verdict, with what shows that it is right.
+    pub last: Option<Verdict>,
+    /// The last core that was shrunk, with what shows of each of its members whether it is needed.
+    pub shrunk: Option<Shrunk>,
+}
 
 /// What a script has declared and asserted, its options, and what was answered.
 #[derive(Drop)]
@@ -66,9 +80,9 @@ impl Model for Session {
 }
 
 impl Session {
-    /// A session in which nothing is declared and nothing is asserted.
-    pub fn new(alloc: Global) -> Result<Session, SessionError>
-        ensures empty { IfOk result (λ s. s ≡ first_course) }
+    /// A session in which nothing is declared and nothing is asserted, where this follows an error.
+    pub fn new(alloc: Global, behavior: ErrorBehavior) -> Result<Session, SessionError>
+        ensures empty { IfOk result (λ s. s ≡ starting_course behavior) }
     {
         let store = new_store(alloc)?;
         let stack = AssertionStack::new(alloc)?;
@@ -77,9 +91,11 @@ impl Session {
             state: SessionState {
                 stack,
                 labels: Vec::new(alloc),
-                options: Options::new(),
-                verdicts: Vec::new(alloc),
-                shrunk: Vec::new(alloc),
+                options: Options::new(behavior),
+                diagnostic_output: None,
+                responses: Vec::new(alloc),
+                last: None,
+                shrunk: None,
                 kept: None,
             },
             store,
@@ -89,29 +105,32 @@ impl Session {
         })
     }
 
-    /// Answers a command that begins on this line. A refused command changes nothing but the list of errors; and a check without
-    /// assumptions, also one that is refused, is counted. Where memory runs out nothing has changed.
+    /// Answers a command that begins on this line. A refused command changes nothing but the list of errors, and ends the script
+    /// under immediate exit; and a check without assumptions, also one that is refused, is counted. Where memory runs out nothing has
+    /// changed.
     ///
     /// A check begins with the clauses that the theory gave in earlier checks and keeps those that it gave in this one; a
     /// command that takes declarations back takes the clauses that name them.
     pub fn command(&mut self, line: u64, expr: &Sexpr) -> Result<Answer, SessionError>
         ensures stepped { IfOk result (λ a. (e : CommandEffect) × Step self.old.state self.old.number line (expression_of expr.now) e
             × (self.new ≡ after self.old line (expression_of expr.now) e self.new.store) × IsAnswer e a) }
-        ensures stored { IfOk result (λ a. StoresBy self.old.state (command (expression_of expr.now)) a.error self.new.evidence.verdicts self.old.store self.new.store) }
+        ensures stored { IfOk result (λ a. StoresBy self.old.state (command (expression_of expr.now)) a.error self.new.evidence.last self.old.store self.new.store) }
         ensures unchanged { OnErr result (self.new ≡ self.old) }
     {
         match command_of(self.alloc, expr) {
             Ok(command) => self.perform(line, command),
             Err(CommandError::Refused(code)) => {
-                Ok(refused(self.alloc, &mut self.errors, line, code)?)
+                let options = self.state.options;
+                Ok(refused(self.alloc, &mut self.errors, options, line, code)?)
             }
             Err(CommandError::NoMemory) => Err(SessionError),
         }
     }
 
     /// Makes the change of declarations, assertions, levels and options that a command on this line makes, without solving and
-    /// without an answer: a check is only counted, one with assumptions not even that, and no core is printed. A refused command
-    /// changes nothing but the list of errors. Where memory runs out nothing has changed.
+    /// without an answer: a check is only counted, and one with assumptions, or a question about what the last verdict left, is
+    /// passed over. A refused command changes nothing but the list of errors, and ends the script under immediate exit. Where memory
+    /// runs out nothing has changed.
     pub fn replay(&mut self, line: u64, expr: &Sexpr) -> Result<Replayed, SessionError>
         requires unanswered { self.old.evidence ≡ no_evidence }
         ensures replayed { IfOk result (Replays self.old line (command (expression_of expr.now)) self.new) }
@@ -121,7 +140,8 @@ impl Session {
         match command_of(self.alloc, expr) {
             Ok(command) => self.replay_command(line, command),
             Err(CommandError::Refused(code)) => {
-                let answer = refused(self.alloc, &mut self.errors, line, code)?;
+                let options = self.state.options;
+                let answer = refused(self.alloc, &mut self.errors, options, line, code)?;
                 Ok(Replayed {
                     check: false,
                     stop: answer.stop,
@@ -161,7 +181,7 @@ impl Session {
         self.state.stack.core_terms()
     }
 
-    /// The clauses that the theory gave in the checks so far and that can still be named, at most 4,096.
+    /// The theory lemmas of the checks so far that can still be named, at most 4,096.
     pub fn kept(&self) -> &Kept
         ensures value { result.now ≡ self.now.store }
         ensures sorted { IsStoreOf self.now.state self.now.store }
@@ -169,18 +189,17 @@ impl Session {
         &self.store
     }
 
-    /// The verdicts so far.
-    pub fn verdicts(&self) -> &[Verdict]
-        ensures value { result.now ≡ self.now.evidence.verdicts }
+    /// The answers of all checks so far.
+    pub fn responses(&self) -> &[CheckResponse]
+        ensures value { result.now ≡ self.now.evidence.responses }
     {
-        self.state.verdicts.as_slice()
+        self.state.responses.as_slice()
     }
 
-    /// The verdicts and the errors of the session, and the cores that were shrunk.
-    pub fn finish(self) -> (Vec<Verdict>, Vec<ScriptError>, Vec<Shrunk>)
-        ensures verdicts { result.0.items ≡ self.evidence.verdicts }
-        ensures errors { result.1.items ≡ self.errors }
-        ensures shrunk { result.2.items ≡ self.evidence.shrunk }
+    /// What the session gave: the answers of its checks, its errors, the last verdict, and the last core that was shrunk.
+    pub fn finish(self) -> Given
+        ensures kept { evidence_in result ≡ self.evidence }
+        ensures errors { result.errors.items ≡ self.errors }
     {
         let state = self.state;
         drop(state.stack);
@@ -188,10 +207,15 @@ impl Session {
         drop(self.known);
         drop(state.labels);
         drop(state.kept);
-        (state.verdicts, self.errors, state.shrunk)
+        Given {
+            responses: state.responses,
+            errors: self.errors,
+            last: state.last,
+            shrunk: state.shrunk,
+        }
     }
 
-    // Counts a check, passes over one with assumptions, and does every other command.
+    // Counts a check, passes over what awaits a verdict, and does every other command.
     fn replay_command(&mut self, line: u64, command: Command<'_>) -> Result<Replayed, SessionError>
         ensures replayed { IfOk result (Replays self.old line (Ok (command_seen command.entry)) self.new) }
         ensures unanswered { self.old.evidence ≡ no_evidence → self.new.evidence ≡ no_evidence }
@@ -204,13 +228,12 @@ impl Session {
                 stop: false,
             });
         }
-        if is_assuming(&command) {
+        if awaits_verdict(&command) {
             return Ok(Replayed {
                 check: false,
                 stop: false,
             });
         }
-        self.stands();
         let answer = self.perform(line, command)?;
         Ok(Replayed {
             check: false,
@@ -218,21 +241,15 @@ impl Session {
         })
     }
 
-    // Where no answer was given, none stands. The function does nothing.
-    fn stands(&self)
-        ensures kept { self.now.evidence ≡ no_evidence → self.now.state.kept ≡ None }
-    {
-        let _state = &self.state;
-    }
-
     // Does a command, or answers why it is refused.
     fn perform(&mut self, line: u64, command: Command<'_>) -> Result<Answer, SessionError>
         ensures stepped { IfOk result (λ a. (e : CommandEffect) × Steps self.old.state (counted_with self.old.number (command_seen command.entry)) line (Ok (command_seen command.entry)) e
             × (self.new ≡ reached self.old line (counted_with self.old.number (command_seen command.entry)) e self.new.store) × IsAnswer e a) }
-        ensures stored { IfOk result (λ a. StoresBy self.old.state (Ok (command_seen command.entry)) a.error self.new.evidence.verdicts self.old.store self.new.store) }
+        ensures stored { IfOk result (λ a. StoresBy self.old.state (Ok (command_seen command.entry)) a.error self.new.evidence.last self.old.store self.new.store) }
         ensures unchanged { OnErr result (self.new ≡ self.old) }
     {
         let number = counted(self.number, &command);
+        let options = self.state.options;
         match perform(
             self.alloc,
             &mut self.state,
@@ -246,7 +263,7 @@ impl Session {
                 Ok(answer)
             }
             Err(CommandError::Refused(code)) => {
-                let answer = refused(self.alloc, &mut self.errors, line, code)?;
+                let answer = refused(self.alloc, &mut self.errors, options, line, code)?;
                 self.number = number;
                 Ok(answer)
             }
@@ -272,11 +289,19 @@ fn is_check(command: &Command<'_>) -> bool
     matches!(command, Command::CheckSat)
 }
 
-// Whether the command is a check with assumptions.
-fn is_assuming(command: &Command<'_>) -> bool
-    ensures value { result ≡ is_assuming (Ok (command_seen command.now)) }
+// Whether the command is a check with assumptions, or asks for what the last verdict left.
+fn awaits_verdict(command: &Command<'_>) -> bool
+    ensures value { result ≡ awaits_verdict (Ok (command_seen command.now)) }
 {
-    matches!(command, Command::CheckSatAssuming(_))
+    matches!(
+        command,
+        Command::CheckSatAssuming(_)
+            | Command::GetModel
+            | Command::GetValue(_)
+            | Command::GetProof
+            | Command::GetUnsatCore
+            | Command::GetUnsatAssumptions
+    )
 }
 
 // One more; the last number stays.

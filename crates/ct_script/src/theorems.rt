@@ -1,5 +1,5 @@
-//! What holds of scripts that are replayed. A theorem is the contract of a function that does nothing.
-ghost use Rattle.std.specs.Prelude.{◌≡◌, ℕ, true, false, List, ◌++◌};
+//! Theorems about replayed scripts. Each is the contract of a function that does nothing.
+ghost use Rattle.std.specs.Prelude.{◌≡◌, ◌⊎◌, ℕ, true, false, List, ◌++◌};
 ghost use Rattle.ct_sexpr.specs.Text.{Located, Ending};
 ghost use Rattle.ct_sexpr.specs.Expression.{Expression};
 ghost use Rattle.ct_command.specs.Reading.{Read, command};
@@ -9,7 +9,7 @@ ghost use Rattle.ct_step.specs.State.{State};
 ghost use Rattle.ct_step.specs.Step.{CommandEffect, Steps, Step, counted};
 ghost use Rattle.ct_script.specs.Answers.{Answers, Leads};
 ghost use Rattle.ct_script.specs.Session.{Course};
-ghost use Rattle.ct_script.specs.Replay.{is_check, Replays, GoesThrough, HaveOneStack, AnswersThrough};
+ghost use Rattle.ct_script.specs.Replay.{is_check, is_undecided, Replays, GoesThrough, HaveOneStack, AnswersThrough, EndsUndecided};
 
 use ct_generics::additions;
 
@@ -17,27 +17,35 @@ use ct_generics::additions;
 /// answered. It does nothing: a proof that needs these theorems calls it.
 pub fn replayed_scripts()
     // What was read on a line makes of one stack and the same options one stack and the same
-    // options, and ends the script or does not, whatever was kept and however many checks there were.
+    // options, whatever was kept and however many checks there were.
     ensures step { (s t : State) (number count line : ℕ) (read : Read) (e f : CommandEffect)
         → HaveOneStack s t
         → Steps s number line read e
         → Steps t count line read f
-        → HaveOneStack e.state f.state × (f.stop ≡ e.stop) }
+        → HaveOneStack e.state f.state }
 
-    // A check leaves them, and does not end the script.
+    // Where it is no check and awaits no verdict it ends the script, or does not, whatever was kept.
+    ensures stop { (s t : State) (number count line : ℕ) (read : Read) (e f : CommandEffect)
+        → HaveOneStack s t
+        → is_undecided read ≡ false
+        → Steps s number line read e
+        → Steps t count line read f
+        → f.stop ≡ e.stop }
+
+    // A check leaves them.
     ensures check { (s : State) (number line : ℕ) (read : Read) (e : CommandEffect)
         → is_check read ≡ true
         → Steps s number line read e
-        → HaveOneStack s e.state × (e.stop ≡ false) }
+        → HaveOneStack s e.state }
 
-    // So an expression that is replayed makes of them what its step makes of them, and counts as
-    // its step does.
+    // So an expression that is replayed makes of them what its step makes of them, ends the script
+    // with it where that is no matter of a verdict, and counts as its step does.
     ensures replayed { (s : State) (number line : ℕ) (x : Expression) (e : CommandEffect) (old new : Course)
         (r : Replayed)
         → HaveOneStack s old.state
         → Step s number line x e
         → Replays old line (command x) new r
-        → HaveOneStack e.state new.state × (r.stop ≡ e.stop) }
+        → HaveOneStack e.state new.state × (is_undecided (command x) ≡ false → r.stop ≡ e.stop) }
     ensures counted { (line : ℕ) (x : Expression) (old new : Course) (r : Replayed)
         → Replays old line (command x) new r
         → new.number ≡ counted old.number x }
@@ -65,15 +73,17 @@ pub fn replayed_scripts()
         → new.number ≡ count }
 
     // Where it goes through the first commands of a script, the answers to the script go through
-    // them too: they lead to a state in which the other commands are answered.
+    // them too: they lead to a state in which the other commands are answered. Or the script ends at
+    // one of these commands, which is refused under immediate exit as a verdict has it.
     ensures through { (s : State) (number : ℕ) (first others : List Located) (ending : Ending)
         (kept : Evidence) (errors : List (ℕ × ℕ)) (lines : List (List ℕ))
         (old new : Course)
         → Answers s number (first ++ others) ending kept errors lines
         → GoesThrough old first new
         → HaveOneStack s old.state
-        → (last : State) × (count : ℕ)
-        × AnswersThrough s number first others ending kept errors lines last count }
+        → ((last : State) × (count : ℕ)
+        × AnswersThrough s number first others ending kept errors lines last count)
+        ⊎ EndsUndecided s number first kept errors lines }
 {
     additions();
 }

@@ -1,9 +1,7 @@
 -- Checks, and questions about what the last verdict left.
-use Rattle.std.proofs.Common.{◌≡◌, ◌∙◌, ℕ, ◌-◌, List, [], ◌∷◌, ◌++◌, length, slice_get, Option, None, Some, Ok, option_map, refl, sym, ap, subst, inl, inr, arith}
+use Rattle.std.proofs.Common.{◌≡◌, ◌∙◌, ℕ, List, [], ◌∷◌, ◌++◌, Option, None, Some, Ok, refl, sym, ap, subst, inl, inr}
 use Rattle.std.specs.Global.{Vec}
-use Rattle.std.proofs.lemmas.List.{append-nil, length-append}
 use Rattle.std.proofs.lemmas.Option.{none-some}
-use Rattle.ct_lemmas.proofs.Lists.{slice_get-last}
 use Rattle.ct_sexpr.specs.Expression.{Expression}
 use Rattle.ct_eval.specs.declared.interp.Interp.{Interp}
 use Rattle.ct_log.specs.Recorded.{Derived}
@@ -24,37 +22,27 @@ use Rattle.ct_step.specs.declared.state.SessionState.{SessionState}
 use Rattle.ct_step.specs.declared.options.Options.{Options}
 use Rattle.ct_step.specs.Options.{budget}
 use Rattle.ct_step.specs.State.{State, Kept, model_kept, derivation_kept}
-use Rattle.ct_step.specs.Evidence.{of_verdict, followed_by}
+use Rattle.ct_step.specs.Evidence.{response_of, of_verdict, followed_by}
 use Rattle.ct_step.specs.Refusal.{IsRefusal, IsCheckRefusal, IsTooLarge}
 use Rattle.ct_step.specs.Step.{Does, OfKept, said, decided, word_of}
-use Rattle.ct_step.specs.Done.{IsAnswer, Performs, IsSame, state_of, evidence_of, kept_of, last_of}
+use Rattle.ct_step.specs.Done.{IsAnswer, Performs, IsSame, state_of, channel_in, evidence_of, kept_of}
 use Rattle.ct_step.specs.Verdict.{ComesTo}
 use Rattle.ct_step.proofs.EvidenceLemmas.{both_same, nothing_later}
 use Rattle.ct_step.proofs.SoundLemmas.{same_state}
 
--- the last verdict
-pub last_given : (verdicts : List Verdict) (v : Verdict) → last_of (verdicts ++ v ∷ []) ≡ Some v
-last_given verdicts v =
-    let long : length (verdicts ++ v ∷ []) - 1 ≡ length verdicts = omega (arith, length-append verdicts (v ∷ [])) in
-    ap (slice_get (verdicts ++ v ∷ [])) long ∙ slice_get-last verdicts v
-
--- it is kept, with what was asked
-kept_last : (verdicts : List Verdict) (v : Verdict) (assumed : Vec Assumed) (number : Option ℕ) → kept_of (verdicts ++ v ∷ []) (Some (record { assumed = assumed; number = number })) ≡ Some (record { verdict = v; assumed = assumptions_seen assumed.items; number = number })
-kept_last verdicts v assumed number = ap (option_map (λ (w : Verdict). record { verdict = w; assumed = assumptions_seen assumed.items; number = number })) (last_given verdicts v)
-
 -- a check has given a verdict
-module _ (old new : SessionState) (number : ℕ) (v : Verdict) (assumed : Vec Assumed) (numbered : Option ℕ) (a : Answer) (same_stack : new.stack ≡ old.stack) (same_labels : new.labels.items ≡ old.labels.items) (same_options : new.options ≡ old.options) (given : new.verdicts.items ≡ old.verdicts.items ++ v ∷ []) (same_shrunk : new.shrunk.items ≡ old.shrunk.items) (kept : new.kept ≡ Some (record { assumed = assumed; number = numbered })) (answer : (s : State) → IsAnswer (said s (word_of v)) a) where
+module _ (old new : SessionState) (number : ℕ) (v : Verdict) (assumed : Vec Assumed) (numbered : Option ℕ) (a : Answer) (same_stack : new.stack ≡ old.stack) (same_labels : new.labels.items ≡ old.labels.items) (same_options : new.options ≡ old.options) (same_channel : new.diagnostic_output ≡ old.diagnostic_output) (given : new.responses.items ≡ old.responses.items ++ response_of v ∷ []) (last : new.last ≡ Some v) (same_shrunk : new.shrunk ≡ old.shrunk) (kept : new.kept ≡ Some (record { assumed = assumed; number = numbered })) (answer : (s : State) → IsAnswer (said s (word_of v)) a) where
   given_state : state_of new ≡ (decided (state_of old) numbered (assumptions_seen assumed.items) v).state
   given_state =
-      ap (λ (stack : Stack). record { stack = stack; labels = new.labels.items; options = new.options; kept = kept_of new.verdicts.items new.kept }) same_stack
-      ∙ ap (λ (labels : List (Option (List ℕ))). record { stack = old.stack; labels = labels; options = new.options; kept = kept_of new.verdicts.items new.kept }) same_labels
-      ∙ ap (λ (options : Options). record { stack = old.stack; labels = old.labels.items; options = options; kept = kept_of new.verdicts.items new.kept }) same_options
-      ∙ ap (λ (vs : List Verdict). record { stack = old.stack; labels = old.labels.items; options = old.options; kept = kept_of vs new.kept }) given
-      ∙ ap (λ (k : Option Asked). record { stack = old.stack; labels = old.labels.items; options = old.options; kept = kept_of (old.verdicts.items ++ v ∷ []) k }) kept
-      ∙ ap (λ (k : Option Kept). record { stack = old.stack; labels = old.labels.items; options = old.options; kept = k }) (kept_last old.verdicts.items v assumed numbered)
+      ap (λ (stack : Stack). record { stack = stack; labels = new.labels.items; options = new.options; diagnostic_output = channel_in new.diagnostic_output; kept = kept_of new.last new.kept }) same_stack
+      ∙ ap (λ (labels : List (Option (List ℕ))). record { stack = old.stack; labels = labels; options = new.options; diagnostic_output = channel_in new.diagnostic_output; kept = kept_of new.last new.kept }) same_labels
+      ∙ ap (λ (options : Options). record { stack = old.stack; labels = old.labels.items; options = options; diagnostic_output = channel_in new.diagnostic_output; kept = kept_of new.last new.kept }) same_options
+      ∙ ap (λ (channel : Option (List ℕ)). record { stack = old.stack; labels = old.labels.items; options = old.options; diagnostic_output = channel_in channel; kept = kept_of new.last new.kept }) same_channel
+      ∙ ap (λ (w : Option Verdict). record { stack = old.stack; labels = old.labels.items; options = old.options; diagnostic_output = channel_in old.diagnostic_output; kept = kept_of w new.kept }) last
+      ∙ ap (λ (k : Option Asked). record { stack = old.stack; labels = old.labels.items; options = old.options; diagnostic_output = channel_in old.diagnostic_output; kept = kept_of (Some v) k }) kept
 
   given_evidence : evidence_of new ≡ followed_by (evidence_of old) (of_verdict v)
-  given_evidence = both_same _ _ _ _ given (same_shrunk ∙ sym (append-nil old.shrunk.items))
+  given_evidence = both_same _ _ _ _ _ _ given last same_shrunk
 
   given_answer : (s : State) → IsAnswer (decided s numbered (assumptions_seen assumed.items) v) a
   given_answer s = record { text = (answer s).text; error = (answer s).error; stop = (answer s).stop }
@@ -86,7 +74,7 @@ module _ (old new : SessionState) (number : ℕ) (v : Verdict) (assumed : Vec As
 
 module _ (old : SessionState) where
   abbrev kept : Option Kept
-  kept = kept_of old.verdicts.items old.kept
+  kept = kept_of old.last old.kept
 
   -- what is kept is there
   there : {X : Type 0} (m : Option X) (x : X) → m ≡ Some x → m ≡ None → ⊥
@@ -111,7 +99,7 @@ module _ (old : SessionState) where
           effect = said (state_of old) text;
           accepted = (λ n refusal. elim refusal [ inl first ↦ there (model_kept kept) i stands first.1 | inr later ↦ accepted n later.1 ], subst (λ (m : Option Interp). OfKept m (λ i. (t : List ℕ) × AreValues old.stack.top.context i ts t × (said (state_of old) text ≡ said (state_of old) t))) (sym stands) (text, are, refl));
           state = same_state old new same;
-          given = both_same _ _ _ _ same.verdicts same.shrunk ∙ sym (nothing_later (evidence_of old));
+          given = both_same _ _ _ _ _ _ same.responses same.last same.shrunk ∙ sym (nothing_later (evidence_of old));
           answer = answer (state_of old);
         }
 

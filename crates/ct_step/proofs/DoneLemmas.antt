@@ -1,6 +1,8 @@
 -- What becomes of a command: it is done, or refused, or memory runs out.
-use Rattle.std.proofs.Common.{◌≡◌, ◌∙◌, ℕ, true, List, [], ◌∷◌, ◌++◌, length, take, Option, None, Result, Ok, Err, IsErrOf, refl, sym, ap, subst}
+use Rattle.std.proofs.Common.{◌≡◌, ◌∙◌, ℕ, true, List, [], ◌∷◌, ◌++◌, length, take, Option, None, Some, Result, Ok, Err, IsErrOf, refl, sym, ap, subst}
 use Rattle.std.specs.Global.{Vec}
+use Rattle.ct_sexpr.specs.Expression.{Expression}
+use Rattle.ct_sexpr.specs.Written.{written}
 use Rattle.ct_sorts.specs.Declarations.{Declarations}
 use Rattle.ct_formulas.specs.Formula.{Formula}
 use Rattle.ct_names.specs.Outcome.{Outcome, Elaborated}
@@ -9,20 +11,20 @@ use Rattle.ct_command.specs.declared.error.CommandError.TheVariants.{Refused, No
 use Rattle.ct_command.specs.declared.command.Command.{Command as ReadCommand}
 use Rattle.ct_command.specs.declared.option.Setting.{Setting}
 use Rattle.ct_command.specs.Seen.{command_seen}
-use Rattle.ct_command.specs.Command.{Command, Literal, check_sat_assuming, set_option, reset, exit}
-use Rattle.ct_engine.specs.declared.verdict.Verdict.{Verdict}
+use Rattle.ct_command.specs.Command.{Command, Literal, check_sat_assuming, set_option, set_diagnostic_output, reset, exit}
 use Rattle.ct_stack.specs.Stack.{Stack, first_stack, in_force, asserting_as}
 use Rattle.ct_stack.specs.declared.assuming.Assumption.{Assumption as Assumed}
 use Rattle.ct_stack.specs.Assuming.{Assumption, assumptions, assumptions_seen, list_seen}
 use Rattle.ct_stack.specs.Outcomes.{IsErrorOr, Gives, GivesNeeding, Comes}
 use Rattle.ct_step.specs.declared.answer.Answer.{Answer}
+use Rattle.ct_step.specs.declared.response.CheckResponse.{CheckResponse}
 use Rattle.ct_step.specs.declared.state.SessionState.{SessionState}
 use Rattle.ct_step.specs.declared.options.Options.{Options}
-use Rattle.ct_step.specs.Options.{first_options, with_setting}
-use Rattle.ct_step.specs.State.{State, first_state, changed, cut_back, asserted}
+use Rattle.ct_step.specs.Options.{first_options, with_setting, standard_error}
+use Rattle.ct_step.specs.State.{State, starting, changed, cut_back, asserted}
 use Rattle.ct_step.specs.Refusal.{IsRefusal, IsTooLarge}
 use Rattle.ct_step.specs.Step.{Does, said, quiet, success}
-use Rattle.ct_step.specs.Done.{IsAnswer, Performs, IsSame, IsDone, state_of, evidence_of}
+use Rattle.ct_step.specs.Done.{IsAnswer, Performs, IsSame, IsDone, state_of, channel_in, evidence_of}
 use Rattle.ct_step.proofs.EvidenceLemmas.{nothing_later}
 
 -- what holds of a value holds where more follows from it
@@ -57,7 +59,7 @@ module _ (old : SessionState) (number : ℕ) (c : Command) (accepted : (n : ℕ)
       record {
         effect = quiet (cut_back (state_of old) stack);
         accepted = (accepted, does);
-        state = ap (λ (ls : List (Option (List ℕ))). record { stack = stack; labels = ls; options = old.options; kept = None }) are;
+        state = ap (λ (ls : List (Option (List ℕ))). record { stack = stack; labels = ls; options = old.options; diagnostic_output = channel_in old.diagnostic_output; kept = None }) are;
         given = sym (nothing_later (evidence_of old));
         answer = answer (cut_back (state_of old) stack);
       }
@@ -69,8 +71,8 @@ module _ (old : SessionState) (number : ℕ) (c : Command) (accepted : (n : ℕ)
         effect = quiet (asserted (state_of old) stack label t);
         accepted = (accepted, does);
         state =
-            ap (λ (s : Stack). record { stack = s; labels = labels.items; options = old.options; kept = None }) is
-            ∙ ap (λ (ls : List (Option (List ℕ))). record { stack = asserting_as stack label t; labels = ls; options = old.options; kept = None }) are;
+            ap (λ (s : Stack). record { stack = s; labels = labels.items; options = old.options; diagnostic_output = channel_in old.diagnostic_output; kept = None }) is
+            ∙ ap (λ (ls : List (Option (List ℕ))). record { stack = asserting_as stack label t; labels = ls; options = old.options; diagnostic_output = channel_in old.diagnostic_output; kept = None }) are;
         given = sym (nothing_later (evidence_of old));
         answer = answer (asserted (state_of old) stack label t);
       }
@@ -99,8 +101,8 @@ not_checked {T} old new number ls shown held e are read why same =
     (subst (λ (xs : List Assumed). IsTooLarge old.stack (assumptions_seen xs) n) are (why n is))) same
 
 -- where room was made alone
-pub same_verdicts : (old : SessionState) (verdicts : Vec Verdict) → verdicts.items ≡ old.verdicts.items → IsSame old (record old { verdicts = verdicts })
-same_verdicts old verdicts is = record { stack = refl; labels = refl; options = refl; verdicts = is; shrunk = refl; kept = refl }
+pub same_responses : (old : SessionState) (responses : Vec CheckResponse) → responses.items ≡ old.responses.items → IsSame old (record old { responses = responses })
+same_responses old responses is = record { stack = refl; labels = refl; options = refl; diagnostic_output = refl; responses = is; last = refl; shrunk = refl; kept = refl }
 
 -- nothing refuses the command
 pub never : (n : ℕ) → ⊥ → ⊥
@@ -108,11 +110,11 @@ never n none = none
 
 -- where the stack has not changed
 pub same_stack : (old : SessionState) (stack : Stack) → stack ≡ old.stack → IsSame old (record old { stack = stack })
-same_stack old stack is = record { stack = is; labels = refl; options = refl; verdicts = refl; shrunk = refl; kept = refl }
+same_stack old stack is = record { stack = is; labels = refl; options = refl; diagnostic_output = refl; responses = refl; last = refl; shrunk = refl; kept = refl }
 
 -- nor the labels
 pub same_beside : (old : SessionState) (stack : Stack) (labels : Vec (Option (List ℕ))) → stack ≡ old.stack → labels.items ≡ old.labels.items → IsSame old (record old { stack = stack; labels = labels })
-same_beside old stack labels is are = record { stack = is; labels = are; options = refl; verdicts = refl; shrunk = refl; kept = refl }
+same_beside old stack labels is are = record { stack = is; labels = are; options = refl; diagnostic_output = refl; responses = refl; last = refl; shrunk = refl; kept = refl }
 
 -- the same change of the stack has the same effect
 pub quietly : (s : State) (new stack : Stack) → new ≡ stack → quiet (changed s new) ≡ quiet (changed s stack)
@@ -126,17 +128,18 @@ pub not_done_as : {T : Type 0} (old new : SessionState) (number : ℕ) (c d : Co
 not_done_as old new number c d e is why unchanged = subst (λ (x : Command). IsDone old number x new (Err e)) is (not_done old new number c e why unchanged)
 
 -- everything is as at the start
-pub resets : (old : SessionState) (number : ℕ) (stack : Stack) (labels : Vec (Option (List ℕ))) (options : Options) (a : Answer) → stack ≡ first_stack → labels.items ≡ [] → options ≡ first_options → ((s : State) → IsAnswer (said s (success options)) a) → Performs old number reset (record { stack = stack; labels = labels; options = options; verdicts = old.verdicts; shrunk = old.shrunk; kept = None }) a
+pub resets : (old : SessionState) (number : ℕ) (stack : Stack) (labels : Vec (Option (List ℕ))) (options : Options) (a : Answer) → stack ≡ first_stack → labels.items ≡ [] → options ≡ first_options old.options.first_error_behavior → ((s : State) → IsAnswer (said s (success options)) a) → Performs old number reset (record { stack = stack; labels = labels; options = options; diagnostic_output = None; responses = old.responses; last = old.last; shrunk = old.shrunk; kept = None }) a
 resets old number stack labels options a same_stack no_labels same_options answer =
+    let start : State = starting old.options.first_error_behavior in
     record {
-      effect = quiet first_state;
+      effect = quiet start;
       accepted = (never, refl);
       state =
-          ap (λ (s : Stack). record { stack = s; labels = labels.items; options = options; kept = None }) same_stack
-          ∙ ap (λ (ls : List (Option (List ℕ))). record { stack = first_stack; labels = ls; options = options; kept = None }) no_labels
-          ∙ ap (λ (o : Options). record { stack = first_stack; labels = []; options = o; kept = None }) same_options;
+          ap (λ (s : Stack). record { stack = s; labels = labels.items; options = options; diagnostic_output = standard_error; kept = None }) same_stack
+          ∙ ap (λ (ls : List (Option (List ℕ))). record { stack = first_stack; labels = ls; options = options; diagnostic_output = standard_error; kept = None }) no_labels
+          ∙ ap (λ (o : Options). record { stack = first_stack; labels = []; options = o; diagnostic_output = standard_error; kept = None }) same_options;
       given = sym (nothing_later (evidence_of old));
-      answer = subst (λ (o : Options). IsAnswer (said first_state (success o)) a) same_options (answer first_state);
+      answer = subst (λ (o : Options). IsAnswer (said start (success o)) a) same_options (answer start);
     }
 
 -- the script ends
@@ -159,6 +162,17 @@ sets old number setting options a accepted is answer =
       state = refl;
       given = sym (nothing_later (evidence_of old));
       answer = answer (record (state_of old) { options = options });
+    }
+
+-- the diagnostic channel is set
+pub sets_channel : (old : SessionState) (number : ℕ) (e : Expression) (text : List ℕ) (a : Answer) → text ≡ written e → ((s : State) → IsAnswer (said s (success old.options)) a) → Performs old number (set_diagnostic_output e) (record old { diagnostic_output = Some text }) a
+sets_channel old number e text a is answer =
+    record {
+      effect = quiet (record (state_of old) { diagnostic_output = text });
+      accepted = (never, ap (λ (t : List ℕ). quiet (record (state_of old) { diagnostic_output = t })) is);
+      state = refl;
+      given = sym (nothing_later (evidence_of old));
+      answer = answer (record (state_of old) { diagnostic_output = text });
     }
 
 -- what becomes of a command as it was read

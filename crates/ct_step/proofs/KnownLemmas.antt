@@ -6,7 +6,7 @@ use Rattle.ct_model.specs.ModelText.{IsModelText}
 use Rattle.ct_log_text.specs.Written.{expression_of_record, text_of}
 use Rattle.ct_command.specs.declared.error.CommandError.{CommandError}
 use Rattle.ct_command.specs.declared.error.CommandError.TheVariants.{Refused, NoMemory}
-use Rattle.ct_command.specs.Command.{Command, set_logic, set_option, get_option, set_info, get_info, declare_sort, define_sort, declare_block, declare_fun, define_fun, assert, check_sat, check_sat_assuming, push, pop, reset_assertions, reset, get_model, get_value, get_proof, get_unsat_core, get_unsat_assumptions, echo, exit, unsupported}
+use Rattle.ct_command.specs.Command.{Command, set_logic, set_option, set_diagnostic_output, get_option, set_info, get_info, declare_sort, define_sort, declare_block, declare_fun, define_fun, assert, check_sat, check_sat_assuming, push, pop, reset_assertions, reset, get_model, get_value, get_proof, get_unsat_core, get_unsat_assumptions, echo, exit, unsupported}
 use Rattle.ct_stack.specs.Values.{AreValues}
 use Rattle.ct_stack.specs.declared.model_values.ModelValues.{ModelValues}
 use Rattle.ct_stack.specs.ModelValues.{AreModelValues}
@@ -46,6 +46,7 @@ module _ (s : State) (known : Option ModelValues) (right : AreKnown s known) (e 
   known_after : (number : ℕ) (c : Command) → Does s number c e → AreKnown e.state (if only_asks c then known else None)
   known_after number (set_logic name) is = forgotten e.state
   known_after number (set_option setting) is = forgotten e.state
+  known_after number (set_diagnostic_output text) is = forgotten e.state
   known_after number (get_option option) is = left _ is
   known_after number set_info is = forgotten e.state
   known_after number (get_info info) is = left _ is

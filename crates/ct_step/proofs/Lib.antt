@@ -1,5 +1,6 @@
 pub mod EvidenceLemmas
 mod AnswerLemmas
+mod LogicLemmas
 mod CauseLemmas
 mod VerdictLemmas
 mod CheckLemmas

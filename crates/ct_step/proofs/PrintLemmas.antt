@@ -1,6 +1,6 @@
 -- What is printed of the core of the derivation that the last check left.
 use Rattle.std.proofs.Common.{◌≡◌, ◌∙◌, ℕ, Bool, true, false, true≢false, List, [], ◌∷◌, ◌++◌, All, Option, None, Some, is_none, Result, Ok, Err, IfOk, OnErr, IsErrOf, option_map, refl, sym, ap, subst, inl, inr}
-use Rattle.std.specs.Global.{Box, Vec}
+use Rattle.std.specs.Global.{Box}
 use Rattle.std.specs.Bool.{MatchBool}
 use Rattle.std.proofs.lemmas.List.{append-nil}
 use Rattle.std.proofs.lemmas.List.Elements.{All-nil, All-cons, All-head, All-tail, All-append, All-map}
@@ -41,7 +41,7 @@ use Rattle.ct_step.specs.Verdict.{Refutes}
 use Rattle.ct_step.specs.Cores.{HasCore, IsShrunkTo, core_text}
 use Rattle.ct_step.specs.Refusal.{IsRefusal}
 use Rattle.ct_step.specs.Step.{CommandEffect, Does, OfKept, PrintsCore, said}
-use Rattle.ct_step.specs.Done.{IsSound, IsAnswer, IsSame, IsDone, Performs, state_of, evidence_of, kept_of, last_of, assumed_in, is_of_assumptions}
+use Rattle.ct_step.specs.Done.{IsSound, IsAnswer, IsSame, IsDone, Performs, state_of, evidence_of, kept_of, assumed_in, is_of_assumptions}
 use Rattle.ct_step.specs.Printing.{IsKeptCore, Prints, IsPrinted}
 use Rattle.ct_step.proofs.EvidenceLemmas.{both_same, nothing_later}
 use Rattle.ct_step.proofs.SoundLemmas.{same_state}
@@ -93,9 +93,9 @@ kept_with None derived e = absurd (none-some derived e)
 kept_with (Some k) derived e = (k, refl, ap (λ (o : Option Derived). option_map (λ d. record { derived = d; assumed = k.assumed }) o) e)
 
 -- and that is what was asked
-assumed_kept : (verdicts : List Verdict) (asked : Option Asked) (k : Kept) → kept_of verdicts asked ≡ Some k → k.assumed ≡ assumptions_seen (assumed_in asked)
-assumed_kept verdicts None k e = absurd (none-some k e)
-assumed_kept verdicts (Some a) k e = by (last_of verdicts) e
+assumed_kept : (last : Option Verdict) (asked : Option Asked) (k : Kept) → kept_of last asked ≡ Some k → k.assumed ≡ assumptions_seen (assumed_in asked)
+assumed_kept last None k e = absurd (none-some k e)
+assumed_kept last (Some a) k e = by last e
   where
     by : (o : Option Verdict) → option_map (λ v. record { verdict = v; assumed = assumptions_seen a.assumed.items; number = a.number }) o ≡ Some k → k.assumed ≡ assumptions_seen a.assumed.items
     by None e = absurd (none-some k e)
@@ -113,7 +113,7 @@ module _ (assertions : Assertions) (are_refuted : AreRefuted) (s : SessionState)
       let refuted : Refuted = record { derived = derived; assumed = k.assumed } in
       let was = holds.was_asked k with_own.1 in
       let own : refuted_kept (Some k) ≡ Some refuted = subst (λ (o : Option Kept). refuted_kept o ≡ Some refuted) with_own.1 with_own.2 in
-      (refuted, with_own.2, refl, assumed_kept s.verdicts.items s.kept k with_own.1, was.refutes refuted own, asked_sorted (state_of s) k.assumed level was.sorted)
+      (refuted, with_own.2, refl, assumed_kept s.last s.kept k with_own.1, was.refutes refuted own, asked_sorted (state_of s) k.assumed level was.sorted)
 
   pub is_kept_core : (core : UnsatCore) → IsCore derived core.places.items core.derivation
       → (Passes (declared (state_of s)) derived.rec.terms derived.asserts derived.rec.lines → Passes (declared (state_of s)) core.derivation.rec.terms core.derivation.asserts core.derivation.rec.lines)
@@ -140,10 +140,6 @@ module _ (assertions : Assertions) (are_refuted : AreRefuted) (s : SessionState)
   kept_box sig is (Ok core) of passes =
       is_kept_core core.value of (subst (λ (d : Declarations). Passes d derived.rec.terms derived.asserts derived.rec.lines → Passes d core.value.derivation.rec.terms core.value.derivation.asserts core.value.derivation.rec.lines) is passes)
   kept_box sig is (Err e) of passes = tt
-
--- nor does it matter what was shrunk before
-pub kept_beside : (s : SessionState) (shrunk : Vec Shrunk) (core : UnsatCore) → IsKeptCore (record s { shrunk = shrunk }) core → IsKeptCore s core
-kept_beside s shrunk core is = record { refuted = is.refuted; kept = is.kept; assumed = is.assumed; is_core = is.is_core; passes = is.passes; has_core = is.has_core }
 
 -- out of memory is no refusal
 is_refusal : {T : Type 0} → Result T CommandError → Bool
@@ -177,15 +173,15 @@ module _ (old new : SessionState) (members : Members) (core : UnsatCore) (is : I
               × (e ≡ record (said (state_of old) (core_text members (state_of old) is.refuted.assumed shrunk.core.places.items)) { evidence = of_core shrunk })) (e ≡ e)) (sym whole) refl,
         );
         state = same_state old new same;
-        given = both_same _ _ _ _ same.verdicts same.shrunk ∙ sym (nothing_later (evidence_of old));
+        given = both_same _ _ _ _ _ _ same.responses same.last same.shrunk ∙ sym (nothing_later (evidence_of old));
         answer = subst (λ (t : List ℕ). IsAnswer (said (state_of old) t) a) (as_kept core.places.items) (answer (state_of old));
       }
 
   -- shrunk
   pub prints_shrunk : (shrunk : Shrunk) → old.options.minimal_unsat_cores ≡ true → IsShrunkTo (context_of (state_of old)) (asked (state_of old) (assumptions_seen (assumed_in old.kept))) (budget old.options) core.places.items shrunk
-      → state_of new ≡ state_of old → new.verdicts.items ≡ old.verdicts.items → new.shrunk.items ≡ old.shrunk.items ++ shrunk ∷ []
+      → state_of new ≡ state_of old → new.responses.items ≡ old.responses.items → new.last ≡ old.last → new.shrunk ≡ Some shrunk
       → ((s : State) → IsAnswer (said s (core_text members (state_of old) (assumptions_seen (assumed_in old.kept)) shrunk.core.places.items)) a) → Prints old members new a
-  prints_shrunk shrunk minimal to same verdicts shrunk_now answer =
+  prints_shrunk shrunk minimal to same responses last shrunk_now answer =
       let text = core_text members (state_of old) is.refuted.assumed shrunk.core.places.items in
       let e : CommandEffect = record (said (state_of old) text) { evidence = of_core shrunk } in
       let to_kept = subst (λ (assumed : List Assumption). IsShrunkTo (context_of (state_of old)) (asked (state_of old) assumed) (budget old.options) core.places.items shrunk) (sym is.assumed) to in
@@ -201,7 +197,7 @@ module _ (old new : SessionState) (members : Members) (core : UnsatCore) (is : I
               × (e ≡ record (said (state_of old) (core_text members (state_of old) is.refuted.assumed other.core.places.items)) { evidence = of_core other })) (e ≡ said (state_of old) (core_text members (state_of old) is.refuted.assumed core.places.items))) (sym minimal) (shrunk, to_kept, refl),
         );
         state = same;
-        given = both_same _ _ _ _ (verdicts ∙ sym (append-nil old.verdicts.items)) shrunk_now;
+        given = both_same _ _ _ _ _ _ (responses ∙ sym (append-nil old.responses.items)) last shrunk_now;
         answer = record { text = own.text; error = own.error; stop = own.stop };
       }
 
@@ -279,18 +275,18 @@ core_done old new number (Err (Refused n)) p = (inl (p.0, no_refuted (state_of o
 core_done old new number (Err NoMemory) p = p
 
 -- a check with assumptions has no number
-of_assumptions : (verdicts : List Verdict) (asked : Option Asked) → is_of_assumptions asked ≡ true → assuming_kept (kept_of verdicts asked) ≡ refuted_kept (kept_of verdicts asked)
-of_assumptions verdicts None e = refl
-of_assumptions verdicts (Some a) e = by (last_of verdicts) a.number e
+of_assumptions : (last : Option Verdict) (asked : Option Asked) → is_of_assumptions asked ≡ true → assuming_kept (kept_of last asked) ≡ refuted_kept (kept_of last asked)
+of_assumptions last None e = refl
+of_assumptions last (Some a) e = by last a.number e
   where
     by : (o : Option Verdict) (number : Option ℕ) → is_none number ≡ true → assuming_kept (option_map (λ v. record { verdict = v; assumed = assumptions_seen a.assumed.items; number = number }) o) ≡ refuted_kept (option_map (λ v. record { verdict = v; assumed = assumptions_seen a.assumed.items; number = number }) o)
     by None number e = refl
     by (Some v) None e = refl
     by (Some v) (Some n) e = absurd (true≢false (sym e))
 
-pub not_of_assumptions : (verdicts : List Verdict) (asked : Option Asked) → is_of_assumptions asked ≡ false → assuming_kept (kept_of verdicts asked) ≡ None
-not_of_assumptions verdicts None e = refl
-not_of_assumptions verdicts (Some a) e = by (last_of verdicts) a.number e
+pub not_of_assumptions : (last : Option Verdict) (asked : Option Asked) → is_of_assumptions asked ≡ false → assuming_kept (kept_of last asked) ≡ None
+not_of_assumptions last None e = refl
+not_of_assumptions last (Some a) e = by last a.number e
   where
     by : (o : Option Verdict) (number : Option ℕ) → is_none number ≡ false → assuming_kept (option_map (λ v. record { verdict = v; assumed = assumptions_seen a.assumed.items; number = number }) o) ≡ None
     by None number e = refl
@@ -299,10 +295,10 @@ not_of_assumptions verdicts (Some a) e = by (last_of verdicts) a.number e
 
 pub assumptions_done : (old new : SessionState) (number : ℕ) (r : Result Answer CommandError) → is_of_assumptions old.kept ≡ true → IsPrinted old members.Assumptions new r → IsDone old number get_unsat_assumptions new r
 assumptions_done old new number (Ok a) assuming p =
-    let kept : assuming_kept (state_of old).kept ≡ Some p.refuted = of_assumptions old.verdicts.items old.kept assuming ∙ p.kept in
+    let kept : assuming_kept (state_of old).kept ≡ Some p.refuted = of_assumptions old.last old.kept assuming ∙ p.kept in
     printed_is old new number get_unsat_assumptions members.Assumptions a p (λ n refusal. elim refusal [ inl first ↦ there (assuming_kept (state_of old).kept) p.refuted kept first.1 | inr later ↦ absurd later.1 ])
     (of_kept (assuming_kept (state_of old).kept) p.refuted (λ refuted. PrintsCore (state_of old) members.Assumptions refuted p.effect) kept p.printed)
-assumptions_done old new number (Err (Refused n)) assuming p = (inl (p.0, of_assumptions old.verdicts.items old.kept assuming ∙ no_refuted (state_of old).kept p.1), p.2)
+assumptions_done old new number (Err (Refused n)) assuming p = (inl (p.0, of_assumptions old.last old.kept assuming ∙ no_refuted (state_of old).kept p.1), p.2)
 assumptions_done old new number (Err NoMemory) assuming p = p
 
 -- nothing is printed
@@ -315,6 +311,6 @@ out_of_memory old new members e is same =
     let none : e ≡ NoMemory = cc in
     subst (λ (x : CommandError). IsPrinted old members new (Err x)) (sym none) same
 
--- where room was made alone
-pub same_shrunk : (old : SessionState) (shrunk : Vec Shrunk) → shrunk.items ≡ old.shrunk.items → IsSame old (record old { shrunk = shrunk })
-same_shrunk old shrunk is = record { stack = refl; labels = refl; options = refl; verdicts = refl; shrunk = is; kept = refl }
+-- nothing has changed
+pub unchanged : (s : SessionState) → IsSame s s
+unchanged s = record { stack = refl; labels = refl; options = refl; diagnostic_output = refl; responses = refl; last = refl; shrunk = refl; kept = refl }

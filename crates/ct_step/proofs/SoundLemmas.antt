@@ -4,6 +4,7 @@ use Rattle.std.specs.Bool.{MatchBool}
 use Rattle.std.proofs.lemmas.List.{append-nil}
 use Rattle.std.proofs.lemmas.List.Elements.{All-nil}
 use Rattle.std.proofs.lemmas.Option.{none-some, same_Some}
+use Rattle.ct_sexpr.specs.Written.{written}
 use Rattle.ct_sorts.specs.Declarations.{Declarations, bool_sort, with_function}
 use Rattle.ct_eval.specs.declared.interp.Interp.{Interp}
 use Rattle.ct_eval.specs.Interpretation.{IsProper}
@@ -14,7 +15,7 @@ use Rattle.ct_names.specs.Needs.{ComesTo as ComesToOutcome}
 use Rattle.ct_names.specs.Outcome.{Outcome, Elaborated}
 use Rattle.ct_command.specs.declared.error.CommandError.{CommandError}
 use Rattle.ct_command.specs.declared.error.CommandError.TheVariants.{Refused, NoMemory}
-use Rattle.ct_command.specs.Command.{Command, set_logic, set_option, get_option, set_info, get_info, declare_sort, define_sort, declare_block, declare_fun, define_fun, assert, check_sat, check_sat_assuming, push, pop, reset_assertions, reset, get_model, get_value, get_proof, get_unsat_core, get_unsat_assumptions, echo, exit, unsupported}
+use Rattle.ct_command.specs.Command.{Command, set_logic, set_option, set_diagnostic_output, get_option, set_info, get_info, declare_sort, define_sort, declare_block, declare_fun, define_fun, assert, check_sat, check_sat_assuming, push, pop, reset_assertions, reset, get_model, get_value, get_proof, get_unsat_core, get_unsat_assumptions, echo, exit, unsupported}
 use Rattle.ct_engine.specs.declared.verdict.Verdict.{Verdict}
 use Rattle.ct_engine.specs.declared.verdict.Verdict.TheVariants.{Sat, Unsat, Unknown}
 use Rattle.ct_stack.specs.Stack.{Stack, Context, in_force, cores, declaring, in_context, defined_in}
@@ -41,7 +42,7 @@ use Rattle.ct_step.specs.Cores.{IsShrunkTo, core_text}
 use Rattle.ct_step.specs.Refusal.{IsRefusal, IsTooLarge}
 use Rattle.ct_step.specs.State.{State, Kept, Refuted, context_of, declared, changed, asserted, model_kept, derivation_kept, refuted_kept, assuming_kept, asked}
 use Rattle.ct_step.specs.Step.{CommandEffect, Does, OfKept, PrintsCore, quiet, said, decided}
-use Rattle.ct_step.specs.Done.{KeepsOwn, WasAsked, IsSound, IsSame, IsDone, state_of, kept_of}
+use Rattle.ct_step.specs.Done.{KeepsOwn, WasAsked, IsSound, IsSame, IsDone, state_of, channel_in, kept_of}
 use Rattle.ct_step.specs.Verdict.{ComesTo, Refutes, IsRight}
 use Rattle.ct_stack.proofs.AssumingLemmas.{assumptions_sorted}
 
@@ -106,6 +107,14 @@ other_options s options sound =
       was_asked = λ kept e. let was = sound.was_asked kept e in record { sorted = was.sorted; fits = was.fits; refutes = was.refutes };
     }
 
+-- and where the diagnostic channel is another
+other_channel : (s : State) (text : List ℕ) → IsSound s → IsSound (record s { diagnostic_output = text })
+other_channel s text sound =
+    record {
+      own = sound.own;
+      was_asked = λ kept e. let was = sound.was_asked kept e in record { sorted = was.sorted; fits = was.fits; refutes = was.refutes };
+    }
+
 pub only : {X : Type 0} (o : Outcome X) (P : X → Type 0) (Q : Type 0) → ((x : X) → P x → Q) → Gives o P → Q
 only (Ok x) P Q more h = more x h
 only (Err n) P Q more h = absurd h
@@ -159,6 +168,7 @@ prints s m refuted e Q more (places, core, printed) = by s.options.minimal_unsat
 pub sound_after : (s : State) (number : ℕ) (c : Command) (e : CommandEffect) → IsSound s → ((n : ℕ) → IsRefusal s c n → ⊥) → Does s number c e → IsSound e.state
 sound_after s number (set_logic name) e sound accepted is = left s e _ is sound
 sound_after s number (set_option setting) e sound accepted is = left s e (quiet (record s { options = with_setting s.options setting })) is (other_options s (with_setting s.options setting) sound)
+sound_after s number (set_diagnostic_output text) e sound accepted is = left s e (quiet (record s { diagnostic_output = written text })) is (other_channel s (written text) sound)
 sound_after s number (get_option option) e sound accepted is = left s e _ is sound
 sound_after s number set_info e sound accepted is = left s e _ is sound
 sound_after s number (get_info info) e sound accepted is = left s e _ is sound
@@ -186,11 +196,12 @@ sound_after s number unsupported e sound accepted is = left s e _ is sound
 -- where nothing has changed the state is the same
 pub same_state : (old new : SessionState) → IsSame old new → state_of new ≡ state_of old
 same_state old new is =
-    ap (λ (stack : Stack). record { stack = stack; labels = new.labels.items; options = new.options; kept = kept_of new.verdicts.items new.kept }) is.stack
-    ∙ ap (λ (labels : List (Option (List ℕ))). record { stack = old.stack; labels = labels; options = new.options; kept = kept_of new.verdicts.items new.kept }) is.labels
-    ∙ ap (λ (options : Options). record { stack = old.stack; labels = old.labels.items; options = options; kept = kept_of new.verdicts.items new.kept }) is.options
-    ∙ ap (λ (verdicts : List Verdict). record { stack = old.stack; labels = old.labels.items; options = old.options; kept = kept_of verdicts new.kept }) is.verdicts
-    ∙ ap (λ (kept : Option Asked). record { stack = old.stack; labels = old.labels.items; options = old.options; kept = kept_of old.verdicts.items kept }) is.kept
+    ap (λ (stack : Stack). record { stack = stack; labels = new.labels.items; options = new.options; diagnostic_output = channel_in new.diagnostic_output; kept = kept_of new.last new.kept }) is.stack
+    ∙ ap (λ (labels : List (Option (List ℕ))). record { stack = old.stack; labels = labels; options = new.options; diagnostic_output = channel_in new.diagnostic_output; kept = kept_of new.last new.kept }) is.labels
+    ∙ ap (λ (options : Options). record { stack = old.stack; labels = old.labels.items; options = options; diagnostic_output = channel_in new.diagnostic_output; kept = kept_of new.last new.kept }) is.options
+    ∙ ap (λ (channel : Option (List ℕ)). record { stack = old.stack; labels = old.labels.items; options = old.options; diagnostic_output = channel_in channel; kept = kept_of new.last new.kept }) is.diagnostic_output
+    ∙ ap (λ (last : Option Verdict). record { stack = old.stack; labels = old.labels.items; options = old.options; diagnostic_output = channel_in old.diagnostic_output; kept = kept_of last new.kept }) is.last
+    ∙ ap (λ (kept : Option Asked). record { stack = old.stack; labels = old.labels.items; options = old.options; diagnostic_output = channel_in old.diagnostic_output; kept = kept_of old.last kept }) is.kept
 
 -- whatever becomes of a command
 pub sound_still : (old new : SessionState) (number : ℕ) (c : Command) (r : Result Answer CommandError) → IsDone old number c new r → IsSound (state_of old) → IsSound (state_of new)

@@ -10,7 +10,7 @@ use Rattle.ct_command.specs.declared.error.CommandError.{CommandError}
 use Rattle.ct_command.specs.declared.error.CommandError.TheVariants.{Refused, NoMemory}
 use Rattle.ct_command.specs.declared.command.Command.{Command as ReadCommand}
 use Rattle.ct_command.specs.Seen.{command_seen}
-use Rattle.ct_command.specs.Command.{Command, set_logic, set_option, get_option, set_info, get_info, declare_sort, define_sort, declare_block, declare_fun, define_fun, assert, check_sat, check_sat_assuming, push, pop, reset_assertions, reset, get_model, get_value, get_proof, get_unsat_core, get_unsat_assumptions, echo, exit, unsupported}
+use Rattle.ct_command.specs.Command.{Command, set_logic, set_option, set_diagnostic_output, get_option, set_info, get_info, declare_sort, define_sort, declare_block, declare_fun, define_fun, assert, check_sat, check_sat_assuming, push, pop, reset_assertions, reset, get_model, get_value, get_proof, get_unsat_core, get_unsat_assumptions, echo, exit, unsupported}
 use Rattle.ct_engine.specs.declared.verdict.Verdict.{Verdict}
 use Rattle.ct_stack.specs.Stack.{Stack, Context, declaring, in_context, named_truth, context_with, defined_in}
 use Rattle.ct_stack.specs.Levels.{pushed, pushed_by}
@@ -40,14 +40,14 @@ rests reset_assertions = false
 rests reset = false
 rests c = true
 
--- so it does, whatever the verdicts are
-stores_same : (s : State) (c : Command) (verdicts : List Verdict) (store : Stored) → rests c ≡ true → Stores s c verdicts store store
-stores_same s check_sat verdicts store rest = absurd (true≢false (sym rest))
-stores_same s (check_sat_assuming ls) verdicts store rest = absurd (true≢false (sym rest))
-stores_same s (pop n) verdicts store rest = absurd (true≢false (sym rest))
-stores_same s reset_assertions verdicts store rest = absurd (true≢false (sym rest))
-stores_same s reset verdicts store rest = absurd (true≢false (sym rest))
-stores_same s c verdicts store rest = refl
+-- so it does, whatever the last verdict is
+stores_same : (s : State) (c : Command) (last : Option Verdict) (store : Stored) → rests c ≡ true → Stores s c last store store
+stores_same s check_sat last store rest = absurd (true≢false (sym rest))
+stores_same s (check_sat_assuming ls) last store rest = absurd (true≢false (sym rest))
+stores_same s (pop n) last store rest = absurd (true≢false (sym rest))
+stores_same s reset_assertions last store rest = absurd (true≢false (sym rest))
+stores_same s reset last store rest = absurd (true≢false (sym rest))
+stores_same s c last store rest = refl
 
 -- levels that are added change nothing that is declared
 pushed_context : (n : ℕ) (s : Stack) → (pushed_by n s).top.context ≡ s.top.context
@@ -75,6 +75,7 @@ module _ (g : Growing) (s : State) (e : CommandEffect) where
   grown_after : (number : ℕ) (c : Command) → rests c ≡ true → Does s number c e → Extends (declared e.state) (declared s)
   grown_after number (set_logic name) rest is = stays _ is refl
   grown_after number (set_option setting) rest is = stays _ is refl
+  grown_after number (set_diagnostic_output text) rest is = stays _ is refl
   grown_after number (get_option option) rest is = stays _ is refl
   grown_after number set_info rest is = stays _ is refl
   grown_after number (get_info info) rest is = stays _ is refl
@@ -129,7 +130,7 @@ module _ (old new : SessionState) (number : ℕ) where
 
   -- by one that leaves the store alone
   stored_same : (c : Command) (r : Result Answer CommandError) (store : Stored) → rests c ≡ true → IsStored old c new r store store
-  stored_same c (Ok a) store rest = stores_same (state_of old) c new.verdicts.items store rest
+  stored_same c (Ok a) store rest = stores_same (state_of old) c new.last store rest
   stored_same c (Err e) store rest = refl
 
   sorted_still : Growing → (c : Command) (r : Result Answer CommandError) (store : Stored) → rests c ≡ true → IsDone old number c new r → IsStoreOf (state_of old) store → IsStoreOf (state_of new) store

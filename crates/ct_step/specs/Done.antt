@@ -1,5 +1,5 @@
 -- What a session stores, and what becomes of a command: it is done, or refused, or memory runs out.
-use Rattle.std.specs.Prelude.{◌≡◌, ℕ, Bool, false, List, [], length, All, Option, None, Some, is_none, Result, Ok, Err, option_map, slice_get, ◌-◌}
+use Rattle.std.specs.Prelude.{◌≡◌, ℕ, Bool, false, List, [], All, Option, None, Some, is_none, Result, Ok, Err, option_map}
 use Rattle.std.specs.Borrow.{Bor}
 use Rattle.ct_sorts.specs.Declarations.{Declarations, bool_sort}
 use Rattle.ct_formulas.specs.FormulaSorts.{IsSorted}
@@ -17,27 +17,29 @@ use Rattle.ct_stack.specs.declared.assuming.Assumption.{Assumption as Assumed}
 use Rattle.ct_stack.specs.Assuming.{Assumption, assumptions_seen}
 use Rattle.ct_step.specs.declared.state.Asked.{Asked}
 use Rattle.ct_step.specs.declared.state.SessionState.{SessionState}
+use Rattle.ct_step.specs.Options.{standard_error}
 use Rattle.ct_step.specs.Evidence.{Evidence, evidence, followed_by}
 use Rattle.ct_step.specs.State.{State, Kept, Refuted, context_of, declared, model_kept, derivation_kept, refuted_kept, asked}
 use Rattle.ct_step.specs.Verdict.{Refutes}
 use Rattle.ct_step.specs.Refusal.{IsRefusal}
 use Rattle.ct_step.specs.Step.{CommandEffect, IsAccepted}
 
--- the last verdict
-abbrev pub last_of : List Verdict → Option Verdict
-last_of verdicts = slice_get verdicts (length verdicts - 1)
-
 -- what is kept of the last verdict, where it stands, by what its check was asked
-abbrev pub kept_of : List Verdict → Option Asked → Option Kept
-kept_of verdicts None = None
-kept_of verdicts (Some a) = option_map (λ v. record { verdict = v; assumed = assumptions_seen a.assumed.items; number = a.number }) (last_of verdicts)
+abbrev pub kept_of : Option Verdict → Option Asked → Option Kept
+kept_of last None = None
+kept_of last (Some a) = option_map (λ v. record { verdict = v; assumed = assumptions_seen a.assumed.items; number = a.number }) last
+
+-- the diagnostic channel, which is the first one where none was set
+abbrev pub channel_in : Option (List ℕ) → List ℕ
+channel_in None = standard_error
+channel_in (Some text) = text
 
 abbrev pub state_of : SessionState → State
-state_of s = record { stack = s.stack; labels = s.labels.items; options = s.options; kept = kept_of s.verdicts.items s.kept }
+state_of s = record { stack = s.stack; labels = s.labels.items; options = s.options; diagnostic_output = channel_in s.diagnostic_output; kept = kept_of s.last s.kept }
 
 -- what is kept of all answers so far
 abbrev pub evidence_of : SessionState → Evidence
-evidence_of s = evidence s.verdicts.items s.shrunk.items
+evidence_of s = evidence s.responses.items s.last s.shrunk
 
 -- what is kept is of what is declared: the model is proper, and the derivation is over the declarations
 pub record KeepsOwn (d : Declarations) (kept : Option Kept) : Type 0 where
@@ -102,8 +104,10 @@ pub record IsSame (old new : SessionState) : Type 0 where
   pub stack : new.stack ≡ old.stack
   pub labels : new.labels.items ≡ old.labels.items
   pub options : new.options ≡ old.options
-  pub verdicts : new.verdicts.items ≡ old.verdicts.items
-  pub shrunk : new.shrunk.items ≡ old.shrunk.items
+  pub diagnostic_output : new.diagnostic_output ≡ old.diagnostic_output
+  pub responses : new.responses.items ≡ old.responses.items
+  pub last : new.last ≡ old.last
+  pub shrunk : new.shrunk ≡ old.shrunk
   pub kept : new.kept ≡ old.kept
 
 -- what becomes of a command, which is the check of this number if it is a check: it is done, or it is refused or memory runs out,

@@ -3,6 +3,7 @@ use Rattle.std.specs.Prelude.{ℕ, List, ◌++◌, length, codes, if◌then◌el
 use Rattle.std.specs.Fmt.{decimal}
 use Rattle.ct_command.specs.declared.option.Info.{Info}
 use Rattle.ct_command.specs.declared.option.Info.TheVariants as info
+use Rattle.ct_step.specs.Options.{behavior_text}
 use Rattle.ct_step.specs.State.{State, undecided_kept}
 
 -- the answer to what the solver does not do or does not know
@@ -17,6 +18,6 @@ abbrev pub info_text : State → Info → List ℕ
 info_text s info.Name = codes "(:name \"cosmt\")"
 info_text s info.Version = codes "(:version \"1.0\")"
 info_text s info.Authors = codes "(:authors \"cosmt\")"
-info_text s info.ErrorBehavior = codes "(:error-behavior continued-execution)"
+info_text s info.ErrorBehavior = codes "(:error-behavior " ++ (behavior_text s.options.error_behavior ++ codes ")")
 info_text s info.AssertionStackLevels = levels_text (length s.stack.below)
 info_text s info.ReasonUnknown = if undecided_kept s.kept then codes "(:reason-unknown incomplete)" else unsupported_text

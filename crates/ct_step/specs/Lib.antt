@@ -1,4 +1,5 @@
 pub mod Numbers
+pub mod Logics
 pub mod Options
 pub mod Evidence
 pub mod State

@@ -4,15 +4,20 @@ use Rattle.std.specs.Fmt.{decimal}
 use Rattle.ct_command.specs.declared.option.BooleanOption.{BooleanOption}
 use Rattle.ct_command.specs.declared.option.BooleanOption.TheVariants.{PrintSuccess, GlobalDeclarations, ProduceModels, ProduceProofs, ProduceAssertions, ProduceAssignments, ProduceUnsatCores, ProduceUnsatAssumptions, MinimalUnsatCores}
 use Rattle.ct_command.specs.declared.option.NumeralOption.{NumeralOption}
-use Rattle.ct_command.specs.declared.option.NumeralOption.TheVariants.{ResourceLimit, Verbosity}
+use Rattle.ct_command.specs.declared.option.NumeralOption.TheVariants.{ResourceLimit, Verbosity, RandomSeed}
+use Rattle.ct_command.specs.declared.option.ErrorBehavior.{ErrorBehavior}
+use Rattle.ct_command.specs.declared.option.ErrorBehavior.TheVariants.{ContinuedExecution, ImmediateExit}
+use Rattle.ct_command.specs.declared.option.Channel.{Channel}
+use Rattle.ct_command.specs.declared.option.Channel.TheVariants.{Diagnostic, Regular}
 use Rattle.ct_command.specs.declared.option.OptionName.{OptionName}
 use Rattle.ct_command.specs.declared.option.OptionName.TheVariants as name
 use Rattle.ct_command.specs.declared.option.Setting.{Setting}
 use Rattle.ct_command.specs.declared.option.Setting.TheVariants as setting
 use Rattle.ct_step.specs.declared.options.Options.{Options}
 
-abbrev pub first_options : Options
-first_options =
+-- the options at the start, where this follows an error
+abbrev pub first_options : ErrorBehavior → Options
+first_options behavior =
     record {
       print_success = false;
       global_declarations = false;
@@ -25,6 +30,9 @@ first_options =
       minimal_unsat_cores = false;
       limit = 100000;
       verbosity = 0;
+      random_seed = 0;
+      error_behavior = behavior;
+      first_error_behavior = behavior;
     }
 
 -- with this value of a Boolean option
@@ -43,11 +51,13 @@ with_boolean o MinimalUnsatCores b = record o { minimal_unsat_cores = b }
 abbrev pub with_numeral : Options → NumeralOption → ℕ → Options
 with_numeral o ResourceLimit n = record o { limit = n }
 with_numeral o Verbosity n = record o { verbosity = n }
+with_numeral o RandomSeed n = record o { random_seed = n }
 
 -- with one option set
 abbrev pub with_setting : Options → Setting → Options
 with_setting o (setting.Boolean option b) = with_boolean o option b
 with_setting o (setting.Numeral option n) = with_numeral o option n
+with_setting o (setting.ErrorBehavior behavior) = record o { error_behavior = behavior }
 
 -- the option is the one that says to which level declarations belong
 abbrev pub is_global_option : BooleanOption → Bool
@@ -58,6 +68,7 @@ is_global_option option = false
 abbrev pub sets_global : Setting → Bool
 sets_global (setting.Boolean option b) = is_global_option option
 sets_global (setting.Numeral option n) = false
+sets_global (setting.ErrorBehavior behavior) = false
 
 -- the value of an option
 abbrev pub boolean_of : Options → BooleanOption → Bool
@@ -74,14 +85,36 @@ boolean_of o MinimalUnsatCores = o.minimal_unsat_cores
 abbrev pub numeral_of : Options → NumeralOption → ℕ
 numeral_of o ResourceLimit = o.limit
 numeral_of o Verbosity = o.verbosity
+numeral_of o RandomSeed = o.random_seed
+
+-- the script ends with an error
+abbrev pub ends_at_error : ErrorBehavior → Bool
+ends_at_error ContinuedExecution = false
+ends_at_error ImmediateExit = true
 
 -- the value as it is written: `true`, `false`, or the numeral
 abbrev pub truth_text : Bool → List ℕ
 truth_text b = if b then codes "true" else codes "false"
 
-abbrev pub value_text : Options → OptionName → List ℕ
-value_text o (name.Boolean option) = truth_text (boolean_of o option)
-value_text o (name.Numeral option) = decimal (numeral_of o option)
+-- or the words of what follows an error
+abbrev pub behavior_text : ErrorBehavior → List ℕ
+behavior_text ContinuedExecution = codes "continued-execution"
+behavior_text ImmediateExit = codes "immediate-exit"
+
+-- the diagnostic channel at the start, as it is written
+abbrev pub standard_error : List ℕ
+standard_error = codes "\"stderr\""
+
+-- a channel, as it is written, where the diagnostic one is this
+abbrev pub channel_text : List ℕ → Channel → List ℕ
+channel_text diagnostic Diagnostic = diagnostic
+channel_text diagnostic Regular = codes "\"stdout\""
+
+abbrev pub value_text : Options → List ℕ → OptionName → List ℕ
+value_text o diagnostic (name.Boolean option) = truth_text (boolean_of o option)
+value_text o diagnostic (name.Numeral option) = decimal (numeral_of o option)
+value_text o diagnostic name.ErrorBehavior = behavior_text o.error_behavior
+value_text o diagnostic (name.Channel channel) = channel_text diagnostic channel
 
 -- the most decisions of a check
 abbrev pub most_decisions : ℕ

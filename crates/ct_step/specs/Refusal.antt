@@ -1,30 +1,22 @@
 -- When a command is refused, and with which error: of the causes of its line, in their order, the first that applies.
-use Rattle.std.specs.Prelude.{◌≡◌, ◌≢◌, ℕ, Bool, true, false, List, [], ◌∷◌, None, codes}
-use Rattle.std.specs.List.{list_any}
-use Rattle.std.specs.Str.{bytes_eq}
+use Rattle.std.specs.Prelude.{◌≡◌, ◌≢◌, ℕ, true, List, None}
 use Rattle.ct_sexpr.specs.Expression.{Expression}
 use Rattle.ct_sorts.specs.Refusals.{IsFirstCause, IsNone}
 use Rattle.ct_closure.specs.Closed.{HasMoreThan, most_closure_terms}
 use Rattle.ct_command.specs.declared.option.Setting.{Setting}
-use Rattle.ct_command.specs.Command.{Command, Literal, set_logic, set_option, get_option, set_info, get_info, declare_sort, define_sort, declare_block, declare_fun, define_fun, assert, check_sat, check_sat_assuming, push, pop, reset_assertions, reset, get_model, get_value, get_proof, get_unsat_core, get_unsat_assumptions, echo, exit, unsupported}
+use Rattle.ct_command.specs.Command.{Command, Literal, set_logic, set_option, set_diagnostic_output, get_option, set_info, get_info, declare_sort, define_sort, declare_block, declare_fun, define_fun, assert, check_sat, check_sat_assuming, push, pop, reset_assertions, reset, get_model, get_value, get_proof, get_unsat_core, get_unsat_assumptions, echo, exit, unsupported}
 use Rattle.ct_stack.specs.Stack.{Stack, first_stack, in_force, cores}
 use Rattle.ct_stack.specs.Assuming.{Assumption, assumptions, assuming}
 use Rattle.ct_stack.specs.Numbers.{too_many_terms}
 use Rattle.ct_stack.specs.Outcomes.{IsErrorOr}
 use Rattle.ct_stack.specs.Refusal.{HasManyTerms, IsSortRefusal, IsSynonymRefusal, IsTypesRefusal, IsFunctionRefusal, IsDefinitionRefusal, IsAssertionRefusal, IsTermsRefusal, IsPushRefusal, IsPopRefusal}
+use Rattle.ct_step.specs.Logics.{IsLogic}
 use Rattle.ct_step.specs.Numbers.{closure_too_large, no_model, no_derivation, not_now, unknown_logic}
 use Rattle.ct_step.specs.Options.{sets_global}
 use Rattle.ct_step.specs.State.{State, context_of, declared, model_kept, derivation_kept, refuted_kept, assuming_kept}
 
--- the logics whose formulas are all among those of the solver
-abbrev pub logics : List (List ℕ)
-logics = codes "QF_UF" ∷ (codes "QF_DT" ∷ (codes "QF_UFDT" ∷ (codes "ALL" ∷ [])))
-
-abbrev pub is_logic : List ℕ → Bool
-is_logic name = list_any (λ logic. bytes_eq logic name) logics
-
 abbrev pub IsLogicRefusal : List ℕ → ℕ → Type 0
-IsLogicRefusal name = IsFirstCause unknown_logic (is_logic name ≡ false) IsNone
+IsLogicRefusal name = IsFirstCause unknown_logic (IsLogic name → ⊥) IsNone
 
 -- to which level declarations belong is set before anything is declared, defined or asserted and before a level is added
 abbrev pub IsOptionRefusal : State → Setting → ℕ → Type 0
@@ -69,6 +61,7 @@ IsAssumptionsRefusal s = IsFirstCause no_derivation (assuming_kept s.kept ≡ No
 abbrev pub IsRefusal : State → Command → ℕ → Type 0
 IsRefusal s (set_logic name) = IsLogicRefusal name
 IsRefusal s (set_option setting) = IsOptionRefusal s setting
+IsRefusal s (set_diagnostic_output text) = IsNone
 IsRefusal s (get_option option) = IsNone
 IsRefusal s set_info = IsNone
 IsRefusal s (get_info info) = IsNone

@@ -4,13 +4,15 @@ use Rattle.std.specs.Prelude.{ℕ, Bool, true, false, List, [], ◌∷◌, ◌++
 use Rattle.ct_sorts.specs.Declarations.{Declarations}
 use Rattle.ct_eval.specs.declared.interp.Interp.{Interp}
 use Rattle.ct_log.specs.Recorded.{Derived}
+use Rattle.ct_command.specs.declared.option.ErrorBehavior.{ErrorBehavior}
+use Rattle.ct_command.specs.declared.option.ErrorBehavior.TheVariants.{ContinuedExecution}
 use Rattle.ct_engine.specs.declared.verdict.Verdict.{Verdict}
 use Rattle.ct_engine.specs.declared.verdict.Verdict.TheVariants.{Sat, Unsat, Unknown}
 use Rattle.ct_formulas.specs.Formula.{Formula}
 use Rattle.ct_stack.specs.Stack.{Context, Stack, first_stack, in_force, asserting_as}
 use Rattle.ct_stack.specs.Assuming.{Assumption, assuming}
 use Rattle.ct_step.specs.declared.options.Options.{Options}
-use Rattle.ct_step.specs.Options.{first_options}
+use Rattle.ct_step.specs.Options.{first_options, standard_error}
 
 -- the verdict that was answered last, and what its check assumed beside the assertions in force; where it was a check without
 -- assumptions, its number among all such checks, from 1
@@ -24,12 +26,18 @@ pub record State : Type 0 where
   -- for each assertion in force, in order, the name by which it is labelled, where it has one
   pub labels : List (Option (List ℕ))
   pub options : Options
+  -- the diagnostic channel, as it is written
+  pub diagnostic_output : List ℕ
   -- the verdict that was answered last, as long as nothing has changed since
   pub kept : Option Kept
 
--- the state at the start
+-- the state at the start, where this follows an error
+abbrev pub starting : ErrorBehavior → State
+starting behavior = record { stack = first_stack; labels = []; options = first_options behavior; diagnostic_output = standard_error; kept = None }
+
+-- the same where a script goes on after an error
 abbrev pub first_state : State
-first_state = record { stack = first_stack; labels = []; options = first_options; kept = None }
+first_state = starting ContinuedExecution
 
 -- what can be named now
 abbrev pub context_of : State → Context

@@ -10,7 +10,7 @@ use Rattle.ct_model.specs.ModelText.{IsModelText}
 use Rattle.ct_log_text.specs.Written.{expression_of_record, text_of}
 use Rattle.ct_engine.specs.declared.verdict.Verdict.{Verdict}
 use Rattle.ct_engine.specs.declared.verdict.Verdict.TheVariants.{Sat, Unsat, Unknown}
-use Rattle.ct_command.specs.Command.{Command, set_logic, set_option, get_option, set_info, get_info, declare_sort, define_sort, declare_block, declare_fun, define_fun, assert, check_sat, check_sat_assuming, push, pop, reset_assertions, reset, get_model, get_value, get_proof, get_unsat_core, get_unsat_assumptions, echo, exit, unsupported}
+use Rattle.ct_command.specs.Command.{Command, set_logic, set_option, set_diagnostic_output, get_option, set_info, get_info, declare_sort, define_sort, declare_block, declare_fun, define_fun, assert, check_sat, check_sat_assuming, push, pop, reset_assertions, reset, get_model, get_value, get_proof, get_unsat_core, get_unsat_assumptions, echo, exit, unsupported}
 use Rattle.ct_command.specs.Reading.{Read, command}
 use Rattle.ct_shrink.specs.declared.shrunk.Shrunk.{Shrunk}
 use Rattle.ct_stack.specs.Stack.{in_force, declaring, in_context, defined_in}
@@ -21,11 +21,11 @@ use Rattle.ct_stack.specs.Elaborations.{with_free, IsWithTypes, synonym_body, wi
 use Rattle.ct_stack.specs.Refusal.{over}
 use Rattle.ct_stack.specs.Values.{AreValues}
 use Rattle.ct_step.specs.declared.options.Options.{Options}
-use Rattle.ct_step.specs.Options.{most_decisions, budget, with_setting, value_text}
+use Rattle.ct_step.specs.Options.{most_decisions, budget, with_setting, ends_at_error, value_text}
 use Rattle.ct_step.specs.declared.cores.Members.{Members}
 use Rattle.ct_step.specs.declared.cores.Members.TheVariants as members
 use Rattle.ct_step.specs.Evidence.{Evidence, no_evidence, of_verdict, of_core}
-use Rattle.ct_step.specs.State.{State, Refuted, first_state, context_of, declared, changed, cut_back, asserted, model_kept, derivation_kept, refuted_kept, assuming_kept, asked}
+use Rattle.ct_step.specs.State.{State, Refuted, starting, context_of, declared, changed, cut_back, asserted, model_kept, derivation_kept, refuted_kept, assuming_kept, asked}
 use Rattle.ct_step.specs.Cores.{HasCore, IsShrunkTo, core_text}
 use Rattle.ct_step.specs.Infos.{info_text, unsupported_text}
 use Rattle.ct_step.specs.Refusal.{IsRefusal}
@@ -44,9 +44,9 @@ pub record CommandEffect : Type 0 where
 abbrev pub refusal_text : ℕ → ℕ → List ℕ
 refusal_text line n = codes "(error \"line " ++ (decimal line ++ (codes ": [E" ++ (decimal n ++ (codes "] " ++ (error_text n ++ codes "\")")))))
 
--- a refused command changes nothing
+-- a refused command changes nothing; the script ends with it where that is set
 abbrev pub refused : State → ℕ → ℕ → CommandEffect
-refused s line n = record { state = s; text = refusal_text line n; error = Some n; evidence = no_evidence; stop = false }
+refused s line n = record { state = s; text = refusal_text line n; error = Some n; evidence = no_evidence; stop = ends_at_error s.options.error_behavior }
 
 -- a command that prints its answer
 abbrev pub said : State → List ℕ → CommandEffect
@@ -89,7 +89,8 @@ PrintsCore s members refuted e =
 abbrev pub Does : State → ℕ → Command → CommandEffect → Type 0
 Does s number (set_logic name) e = e ≡ quiet s
 Does s number (set_option setting) e = e ≡ quiet (record s { options = with_setting s.options setting })
-Does s number (get_option option) e = e ≡ said s (value_text s.options option)
+Does s number (set_diagnostic_output text) e = e ≡ quiet (record s { diagnostic_output = written text })
+Does s number (get_option option) e = e ≡ said s (value_text s.options s.diagnostic_output option)
 Does s number set_info e = e ≡ quiet s
 Does s number (get_info info) e = e ≡ said s (info_text s info)
 Does s number (declare_sort name params) e = e ≡ quiet (changed s (declaring s.stack (with_free (declared s) name params)))
@@ -109,7 +110,7 @@ Does s number (check_sat_assuming ls) e =
 Does s number (push n) e = e ≡ quiet (changed s (pushed_by n s.stack))
 Does s number (pop n) e = e ≡ quiet (cut_back s (popped_by s.options.global_declarations n s.stack))
 Does s number reset_assertions e = e ≡ quiet (cut_back s (emptied s.options.global_declarations s.stack))
-Does s number reset e = e ≡ quiet first_state
+Does s number reset e = e ≡ quiet (starting s.options.first_error_behavior)
 Does s number get_model e = OfKept (model_kept s.kept) (λ i. (text : List ℕ) × IsModelText (declared s) i text × (e ≡ said s text))
 Does s number (get_value ts) e = OfKept (model_kept s.kept) (λ i. (text : List ℕ) × AreValues (context_of s) i ts text × (e ≡ said s text))
 Does s number get_proof e = OfKept (derivation_kept s.kept) (λ kept. e ≡ said s (text_of (expression_of_record (declared s) kept.0 kept.1.rec)))

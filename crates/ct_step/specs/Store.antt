@@ -1,6 +1,6 @@
 -- What becomes of the store of clauses that the theory gave in earlier checks: a check uses it and adds to it, and where declarations
 -- go, so does what names them.
-use Rattle.std.specs.Prelude.{◌≡◌, ◌≢◌, ◌⊎◌, ℕ, ◌<◌, false, List, [], length, Option, None, Some, Result, Ok, Err}
+use Rattle.std.specs.Prelude.{◌≡◌, ◌≢◌, ◌⊎◌, ℕ, ◌<◌, false, [], length, Option, None, Some, Result, Ok, Err}
 use Rattle.ct_sorts.specs.Declarations.{Declarations}
 use Rattle.ct_sorts.specs.Lengths.{Lengths}
 use Rattle.ct_sorts.specs.Marks.{lengths}
@@ -19,7 +19,7 @@ use Rattle.ct_step.specs.declared.answer.Answer.{Answer}
 use Rattle.ct_step.specs.declared.state.SessionState.{SessionState}
 use Rattle.ct_step.specs.State.{State, declared}
 use Rattle.ct_step.specs.Step.{OfKept}
-use Rattle.ct_step.specs.Done.{IsSound, last_of, state_of}
+use Rattle.ct_step.specs.Done.{IsSound, state_of}
 
 -- the store at the start
 abbrev pub first_store : Stored
@@ -52,19 +52,19 @@ abbrev pub IsCut : Declarations → Option Lengths → Stored → Stored → Typ
 IsCut d None old new = new ≡ old
 IsCut d (Some m) old new = ((m ≡ lengths d) × (new ≡ old)) ⊎ ((m ≢ lengths d) × IsWithin m old new)
 
--- what an accepted command makes of the store, after which these are all verdicts: a check takes from it, and leaves there, what the
--- last of them says
-abbrev pub Stores : State → Command → List Verdict → Stored → Stored → Type 0
-Stores s check_sat verdicts old new = OfKept (last_of verdicts) (HasKept (declared s) old new)
-Stores s (check_sat_assuming ls) verdicts old new = OfKept (last_of verdicts) (HasKept (declared s) old new)
-Stores s c verdicts old new = IsCut (declared s) (mark_after s c) old new
+-- what an accepted command makes of the store, after which this is the last verdict: a check takes from it, and leaves there, what that
+-- says
+abbrev pub Stores : State → Command → Option Verdict → Stored → Stored → Type 0
+Stores s check_sat last old new = OfKept last (HasKept (declared s) old new)
+Stores s (check_sat_assuming ls) last old new = OfKept last (HasKept (declared s) old new)
+Stores s c last old new = IsCut (declared s) (mark_after s c) old new
 
 -- what becomes of the store by what was read, which is answered so: by a command that is refused, and by what is no command, nothing
-abbrev pub StoresBy : State → Read → Option ℕ → List Verdict → Stored → Stored → Type 0
-StoresBy s (Ok c) None verdicts old new = Stores s c verdicts old new
-StoresBy s read error verdicts old new = new ≡ old
+abbrev pub StoresBy : State → Read → Option ℕ → Option Verdict → Stored → Stored → Type 0
+StoresBy s (Ok c) None last old new = Stores s c last old new
+StoresBy s read error last old new = new ≡ old
 
 -- what becomes of it by a command that is done, or refused, or for which memory runs out
 abbrev pub IsStored : SessionState → Command → SessionState → Result Answer CommandError → Stored → Stored → Type 0
-IsStored old c new (Ok a) before after = Stores (state_of old) c new.verdicts.items before after
+IsStored old c new (Ok a) before after = Stores (state_of old) c new.last before after
 IsStored old c new (Err e) before after = after ≡ before

@@ -56,14 +56,15 @@ pub(crate) fn word_of(verdict: &Verdict) -> &'static [u8]
     }
 }
 
-/// Stores an error and answers it.
+/// Stores an error and answers it, under these options.
 pub fn refused(
     alloc: Global,
     errors: &mut Vec<(u64, u16)>,
+    options: Options,
     line: u64,
     code: u16,
 ) -> Result<Answer, AllocError>
-    ensures answer { IfOk result (λ a. (s : State) → IsAnswer (refused s line code) a) }
+    ensures answer { IfOk result (λ a. (s : State) → s.options ≡ options → IsAnswer (refused s line code) a) }
     ensures stored { IfOk result (λ a. errors.new.items ≡ errors.old.items ++ (line, code) ∷ []) }
     ensures unchanged { OnErr result (errors.new.items ≡ errors.old.items) }
 {
@@ -72,7 +73,7 @@ pub fn refused(
     Ok(Answer {
         text,
         error: Some(code),
-        stop: false,
+        stop: options.ends_at_error(),
     })
 }
 

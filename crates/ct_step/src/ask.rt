@@ -1,5 +1,5 @@
-//! The commands that ask for what the last verdict left: its model, values in it, or its derivation (SMT-LIB 2.7, sections 4.2.6
-//! and 4.2.7).
+//! The commands that ask for the result of the last check: its model, values in it, or its derivation (SMT-LIB 2.7, sections
+//! 4.2.6 and 4.2.7).
 ghost use Rattle.std.specs.Prelude.{ℕ};
 ghost use Rattle.ct_command.specs.Command.{get_model, get_value, get_proof};
 ghost use Rattle.ct_command.specs.Seen.{all_seen};
@@ -26,7 +26,7 @@ pub(crate) fn model(alloc: Global, state: &SessionState) -> Result<Answer, Comma
     requires sound { IsSound (state_of state.now) }
     ensures done { (number : ℕ) → IsDone state.now number get_model state.now result }
 {
-    let Some(interp) = kept_model(state.verdicts.as_slice(), &state.kept) else {
+    let Some(interp) = kept_model(&state.last, &state.kept) else {
         return Err(CommandError::Refused(NO_MODEL));
     };
     match model_text(alloc, &state.stack.scope().sig, interp) {
@@ -47,7 +47,7 @@ pub(crate) fn values(
     ensures done { (number : ℕ) → IsDone state.old number (get_value (all_seen terms.now)) state.new result }
     ensures known { AreKnown (state_of state.old) known.new }
 {
-    let Some(interp) = kept_model(state.verdicts.as_slice(), &state.kept) else {
+    let Some(interp) = kept_model(&state.last, &state.kept) else {
         return Err(CommandError::Refused(NO_MODEL));
     };
     let text = state.stack.values(alloc, interp, known, terms)?;
@@ -59,7 +59,7 @@ pub(crate) fn proof(alloc: Global, state: &SessionState) -> Result<Answer, Comma
     requires sound { IsSound (state_of state.now) }
     ensures done { (number : ℕ) → IsDone state.now number get_proof state.now result }
 {
-    let Some((number, derivation)) = kept_derivation(state.verdicts.as_slice(), &state.kept) else {
+    let Some((number, derivation)) = kept_derivation(&state.last, &state.kept) else {
         return Err(CommandError::Refused(NO_DERIVATION));
     };
     match derivation_text(alloc, &state.stack.scope().sig, number, derivation.rec()) {

@@ -17,6 +17,7 @@ ghost use Rattle.ct_step.specs.Store.{IsStoreOf, IsStored};
 ghost use Rattle.ct_step.specs.Verdict.{ComesTo};
 
 use crate::answer::{Answer, LONGEST_WORD, said, word_of};
+use crate::response::response_of;
 use crate::state::{Asked, SessionState};
 use ct_command::{CommandError, Literal};
 use ct_engine::{Kept, SolveError, Verdict, solve_kept};
@@ -43,11 +44,12 @@ pub(crate) fn check(
     ensures stored { IsStored state.old check_sat state.new result store.old store.new }
     ensures sorted { IsStoreOf (state_of state.new) store.new }
 {
-    state.verdicts.reserve(1)?;
+    state.responses.reserve(1)?;
     let mut text = Vec::with_capacity(alloc, LONGEST_WORD)?;
     let verdict = verdict(alloc, &state.stack, state.options.budget(), store)?;
     put_word(&mut text, &verdict);
-    state.verdicts.push(verdict).unwrap();
+    state.responses.push(response_of(&verdict)).unwrap();
+    state.last = Some(verdict);
     state.kept = Some(Asked {
         assumed: Vec::new(alloc),
         number: Some(number),
@@ -71,12 +73,13 @@ pub(crate) fn check_assuming(
     ensures sorted { IsStoreOf (state_of state.new) store.new }
 {
     let assumed = state.stack.assume(alloc, literals)?;
-    state.verdicts.reserve(1)?;
+    state.responses.reserve(1)?;
     let mut text = Vec::with_capacity(alloc, LONGEST_WORD)?;
     let budget = state.options.budget();
     let verdict = verdict_assuming(alloc, &state.stack, assumed.as_slice(), budget, store)?;
     put_word(&mut text, &verdict);
-    state.verdicts.push(verdict).unwrap();
+    state.responses.push(response_of(&verdict)).unwrap();
+    state.last = Some(verdict);
     state.kept = Some(Asked {
         assumed,
         number: None,

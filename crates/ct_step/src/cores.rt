@@ -95,7 +95,7 @@ fn whole_answer(
     Ok(said(text))
 }
 
-// The members of the core of the last derivation, shrunk. There is room for it before anything changes.
+// The members of the core of the last derivation, shrunk.
 fn shrunk_answer(
     alloc: Global,
     state: &mut SessionState,
@@ -104,11 +104,10 @@ fn shrunk_answer(
     requires sound { IsSound (state_of state.old) }
     ensures printed { state.old.options.minimal_unsat_cores ≡ true → IsPrinted state.old members state.new result }
 {
-    state.shrunk.reserve(1)?;
     let core = kept_core(alloc, state)?;
     let shrunk = shrunk_core(alloc, state, core)?;
     let text = core_text(alloc, state, members, shrunk.core.places.as_slice())?;
-    state.shrunk.push(Box::into_inner(shrunk)).unwrap();
+    state.shrunk = Some(Box::into_inner(shrunk));
     Ok(said(text))
 }
 
@@ -118,7 +117,7 @@ fn kept_core(alloc: Global, state: &SessionState) -> Result<Box<UnsatCore>, Comm
     ensures core { IfOk result (λ core. IsKeptCore state.now core.value) }
     ensures refused { (n : ℕ) → IsErrOf result (CommandError.Refused n) → (n ≡ no_derivation) × (derived_kept (state_of state.now).kept ≡ None) }
 {
-    let Some(derivation) = kept_refutation(state.verdicts.as_slice(), &state.kept) else {
+    let Some(derivation) = kept_refutation(&state.last, &state.kept) else {
         return Err(CommandError::Refused(NO_DERIVATION));
     };
     meanings();

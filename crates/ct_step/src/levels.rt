@@ -85,13 +85,14 @@ pub(crate) fn reset(
     ensures stored { IsStored state.old reset state.new result store.old store.new }
     ensures sorted { IsStoreOf (state_of state.new) store.new }
 {
-    let options = Options::new();
+    let options = Options::new(state.options.first_error_behavior);
     let answer = quiet(alloc, options)?;
     let mark = state.stack.first_mark(false);
     cut_store(alloc, &state.stack, mark, store)?;
     state.stack.reset();
     state.labels.truncate(0);
     state.options = options;
+    state.diagnostic_output = None;
     state.kept = None;
     Ok(answer)
 }

@@ -1,9 +1,9 @@
 //! The options of a session (SMT-LIB 2.7, section 4.1.7).
 ghost use Rattle.std.specs.Prelude.{◌≡◌, IfOk};
 ghost use Rattle.std.specs.Fmt.{decimal};
-ghost use Rattle.ct_step.specs.Options.{first_options, with_boolean, with_numeral, with_setting, sets_global, boolean_of, numeral_of, truth_text, value_text, budget};
+ghost use Rattle.ct_step.specs.Options.{first_options, with_boolean, with_numeral, with_setting, sets_global, boolean_of, numeral_of, ends_at_error, truth_text, behavior_text, channel_text, value_text, budget};
 
-use ct_command::{BooleanOption, NumeralOption, OptionName, Setting};
+use ct_command::{BooleanOption, Channel, ErrorBehavior, NumeralOption, OptionName, Setting};
 use std::alloc::{AllocError, Global};
 
 /// The values of the options.
@@ -31,12 +31,18 @@ pub struct Options {
     pub limit: u128,
     /// Without effect.
     pub verbosity: u128,
+    /// Without effect.
+    pub random_seed: u128,
+    /// What follows an error.
+    pub error_behavior: ErrorBehavior,
+    /// What followed an error at the start, and does so again after `reset`.
+    pub first_error_behavior: ErrorBehavior,
 }
 
 impl Options {
-    /// The options at the start.
-    pub fn new() -> Options
-        ensures value { result ≡ first_options }
+    /// The options at the start, where this follows an error.
+    pub fn new(behavior: ErrorBehavior) -> Options
+        ensures value { result ≡ first_options behavior }
     {
         Options {
             print_success: false,
@@ -50,6 +56,9 @@ impl Options {
             minimal_unsat_cores: false,
             limit: 100_000,
             verbosity: 0,
+            random_seed: 0,
+            error_behavior: behavior,
+            first_error_behavior: behavior,
         }
     }
 
@@ -60,6 +69,10 @@ impl Options {
         match setting {
             Setting::Boolean(option, value) => self.with_boolean(option, value),
             Setting::Numeral(option, value) => self.with_numeral(option, value),
+            Setting::ErrorBehavior(behavior) => Options {
+                error_behavior: behavior,
+                ..self
+            },
         }
     }
 
@@ -120,6 +133,10 @@ impl Options {
                 verbosity: value,
                 ..self
             },
+            NumeralOption::RandomSeed => Options {
+                random_seed: value,
+                ..self
+            },
         }
     }
 
@@ -147,18 +164,41 @@ impl Options {
         match option {
             NumeralOption::ResourceLimit => self.limit,
             NumeralOption::Verbosity => self.verbosity,
+            NumeralOption::RandomSeed => self.random_seed,
         }
     }
 
-    /// The value of an option as it is written: `true`, `false`, or the numeral.
-    pub(crate) fn value_text(self, alloc: Global, name: OptionName) -> Result<Vec<u8>, AllocError>
-        ensures text { IfOk result (λ text. text.items ≡ value_text self name) }
+    /// Whether the script ends with an error.
+    pub fn ends_at_error(self) -> bool
+        ensures value { result ≡ ends_at_error self.error_behavior }
+    {
+        match self.error_behavior {
+            ErrorBehavior::ContinuedExecution => false,
+            ErrorBehavior::ImmediateExit => true,
+        }
+    }
+
+    /// The value of an option as it is written, where the diagnostic channel is written so: `true`, `false`, a numeral, a string, or
+    /// the words of what follows an error.
+    pub(crate) fn value_text(
+        self,
+        alloc: Global,
+        diagnostic: &[u8],
+        name: OptionName,
+    ) -> Result<Vec<u8>, AllocError>
+        ensures text { IfOk result (λ text. text.items ≡ value_text self diagnostic.now name) }
     {
         match name {
             OptionName::Boolean(option) => {
                 Vec::from_slice(alloc, truth_text(self.boolean(option)))
             }
             OptionName::Numeral(option) => numeral_text(alloc, self.numeral(option)),
+            OptionName::ErrorBehavior => {
+                Vec::from_slice(alloc, behavior_text(self.error_behavior))
+            }
+            OptionName::Channel(channel) => {
+                Vec::from_slice(alloc, channel_text(diagnostic, channel))
+            }
         }
     }
 
@@ -179,7 +219,7 @@ pub(crate) fn sets_global(setting: Setting) -> bool
 {
     match setting {
         Setting::Boolean(BooleanOption::GlobalDeclarations, _) => true,
-        Setting::Boolean(_, _) | Setting::Numeral(_, _) => false,
+        Setting::Boolean(_, _) | Setting::Numeral(_, _) | Setting::ErrorBehavior(_) => false,
     }
 }
 
@@ -188,6 +228,26 @@ fn truth_text(value: bool) -> &'static [u8]
     ensures value { result.now ≡ truth_text value }
 {
     if value { b"true" } else { b"false" }
+}
+
+/// The words of what follows an error.
+pub(crate) fn behavior_text(behavior: ErrorBehavior) -> &'static [u8]
+    ensures value { result.now ≡ behavior_text behavior }
+{
+    match behavior {
+        ErrorBehavior::ContinuedExecution => b"continued-execution",
+        ErrorBehavior::ImmediateExit => b"immediate-exit",
+    }
+}
+
+// A channel as it is written, where the diagnostic one is this.
+fn channel_text(diagnostic: &[u8], channel: Channel) -> &[u8]
+    ensures value { result.now ≡ channel_text diagnostic.now channel }
+{
+    match channel {
+        Channel::Diagnostic => diagnostic,
+        Channel::Regular => b"\"stdout\"",
+    }
 }
 
 // A number in decimal.

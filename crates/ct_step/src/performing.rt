@@ -1,4 +1,4 @@
-//! Commands that are done: what each changes, and what it answers.
+//! Executes commands: what each changes, and what it answers.
 ghost use Rattle.std.specs.Prelude.{◌≡◌, None, if◌then◌else◌};
 ghost use Rattle.ct_command.specs.Seen.{command_seen};
 ghost use Rattle.ct_step.specs.Done.{IsDone, state_of};
@@ -14,7 +14,8 @@ use crate::declare::{
 };
 use crate::levels::{pop, push, reset, reset_assertions};
 use crate::settings::{
-    echo, exit, get_info, get_option, set_info, set_logic, set_option, unsupported,
+    echo, exit, get_info, get_option, set_diagnostic_output, set_info, set_logic, set_option,
+    unsupported,
 };
 use crate::state::SessionState;
 use crate::theorems::growing;
@@ -96,6 +97,7 @@ fn pass_on(
     match command {
         Command::SetLogic(name) => set_logic(alloc, state, name),
         Command::SetOption(setting) => set_option(alloc, state, setting),
+        Command::SetDiagnosticOutput(text) => set_diagnostic_output(alloc, state, text),
         Command::GetOption(name) => get_option(alloc, state, name),
         Command::SetInfo => set_info(alloc, state),
         Command::GetInfo(info) => get_info(alloc, state, info),

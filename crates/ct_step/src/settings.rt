@@ -2,16 +2,16 @@
 //! nothing.
 ghost use Rattle.std.specs.Prelude.{◌≡◌, ◌≢◌, ◌↔◌, ℕ, true, IsTrue};
 ghost use Rattle.ct_sexpr.specs.View.{expression_of};
-ghost use Rattle.ct_command.specs.Command.{set_logic, set_option, get_option, set_info, get_info, echo, exit, unsupported};
+ghost use Rattle.ct_command.specs.Command.{set_logic, set_option, set_diagnostic_output, get_option, set_info, get_info, echo, exit, unsupported};
 ghost use Rattle.ct_stack.specs.Stack.{first_stack};
 ghost use Rattle.ct_step.specs.Options.{sets_global};
-ghost use Rattle.ct_step.specs.Refusal.{is_logic};
 ghost use Rattle.ct_step.specs.Done.{IsDone};
 
 use crate::answer::{Answer, quiet, said};
 use crate::infos::{UNSUPPORTED, info_text};
+use crate::logics::is_logic;
 use crate::options::sets_global;
-use crate::state::SessionState;
+use crate::state::{SessionState, diagnostic_output};
 use ct_command::{CommandError, Info, OptionName, Setting};
 use ct_sexpr::{Sexpr, sexpr_text};
 use ct_stack::AssertionStack;
@@ -23,10 +23,7 @@ const NOT_NOW: u16 = 54;
 /// The number of the error of a logic that there is not.
 const UNKNOWN_LOGIC: u16 = 55;
 
-/// The logics whose formulas are all among those of the solver.
-const LOGICS: [&[u8]; 4] = [b"QF_UF", b"QF_DT", b"QF_UFDT", b"ALL"];
-
-/// Answers `set-logic`: every logic that there is has the same formulas.
+/// Answers `set-logic`. What a logic promises is not checked: each term is taken or refused by itself.
 pub(crate) fn set_logic(
     alloc: Global,
     state: &SessionState,
@@ -38,13 +35,6 @@ pub(crate) fn set_logic(
         return Err(CommandError::Refused(UNKNOWN_LOGIC));
     }
     Ok(quiet(alloc, state.options)?)
-}
-
-// Whether there is a logic of the name.
-fn is_logic(name: &[u8]) -> bool
-    ensures logic { result ≡ is_logic name.now }
-{
-    LOGICS.contains(&name)
 }
 
 /// Sets an option.
@@ -71,6 +61,24 @@ fn comes_late(stack: &AssertionStack, setting: Setting) -> bool
     sets_global(setting) && !stack.is_first()
 }
 
+/// Sets the diagnostic channel, which is stored as it is written.
+pub(crate) fn set_diagnostic_output(
+    alloc: Global,
+    state: &mut SessionState,
+    expr: &Sexpr,
+) -> Result<Answer, CommandError>
+    ensures done { (number : ℕ) → IsDone state.old number (set_diagnostic_output (expression_of expr.now)) state.new result }
+{
+    let answer = quiet(alloc, state.options)?;
+    match sexpr_text(alloc, expr) {
+        Ok(text) => {
+            state.diagnostic_output = Some(text);
+            Ok(answer)
+        }
+        Err(_) => Err(CommandError::NoMemory),
+    }
+}
+
 /// Answers `get-option`.
 pub(crate) fn get_option(
     alloc: Global,
@@ -79,7 +87,8 @@ pub(crate) fn get_option(
 ) -> Result<Answer, CommandError>
     ensures done { (number : ℕ) → IsDone state.now number (get_option name) state.now result }
 {
-    let text = state.options.value_text(alloc, name)?;
+    let diagnostic = diagnostic_output(&state.diagnostic_output);
+    let text = state.options.value_text(alloc, diagnostic, name)?;
     Ok(said(text))
 }
 

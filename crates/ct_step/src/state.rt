@@ -1,9 +1,10 @@
-//! What commands change, and what the last verdict left.
+//! What commands change, and the result of the last check.
 ghost use Rattle.std.specs.Prelude.{◌≡◌};
 ghost use Rattle.ct_step.specs.State.{model_kept, derivation_kept, derived_kept, undecided_kept};
-ghost use Rattle.ct_step.specs.Done.{kept_of, interp_seen, derivation_seen, derived_seen, number_in, assumed_in, is_of_assumptions};
+ghost use Rattle.ct_step.specs.Done.{kept_of, channel_in, interp_seen, derivation_seen, derived_seen, number_in, assumed_in, is_of_assumptions};
 
 use crate::options::Options;
+use crate::response::CheckResponse;
 use ct_engine::Verdict;
 use ct_eval::Interp;
 use ct_log::Derivation;
@@ -20,10 +21,14 @@ pub struct SessionState {
     pub labels: Vec<Option<Bytes>>,
     /// The options.
     pub options: Options,
-    /// The verdicts so far.
-    pub verdicts: Vec<Verdict>,
-    /// The cores so far that were shrunk.
-    pub shrunk: Vec<Shrunk>,
+    /// The diagnostic channel as it was set, as it is written; none where it was not.
+    pub diagnostic_output: Option<Bytes>,
+    /// The answers of all checks so far.
+    pub responses: Vec<CheckResponse>,
+    /// The last verdict.
+    pub last: Option<Verdict>,
+    /// The last core that was shrunk.
+    pub shrunk: Option<Shrunk>,
     /// What was asked of the check that gave the last verdict, as long as that verdict stands.
     pub kept: Option<Asked>,
 }
@@ -37,29 +42,39 @@ pub struct Asked {
     pub number: Option<u64>,
 }
 
-/// The model of the last verdict, where that stands and has one.
-pub(crate) fn kept_model<'a>(verdicts: &'a [Verdict], kept: &Option<Asked>) -> Option<&'a Interp>
-    ensures value { interp_seen result ≡ model_kept (kept_of verdicts.now kept.now) }
+/// The diagnostic channel, as it is written.
+pub(crate) fn diagnostic_output(channel: &Option<Bytes>) -> &[u8]
+    ensures value { result.now ≡ channel_in channel.now }
 {
-    if kept.is_none() || verdicts.is_empty() {
+    match channel {
+        Some(text) => text.as_slice(),
+        None => b"\"stderr\"",
+    }
+}
+
+/// The model of the last verdict, where that stands and has one.
+pub(crate) fn kept_model<'a>(last: &'a Option<Verdict>, kept: &Option<Asked>) -> Option<&'a Interp>
+    ensures value { interp_seen result ≡ model_kept (kept_of last.now kept.now) }
+{
+    if kept.is_none() {
         return None;
     }
-    match &verdicts[verdicts.len() - 1] {
-        Verdict::Sat(interp) => Some(interp),
-        Verdict::Unsat(_) | Verdict::Unknown(_) => None,
+    match last {
+        Some(Verdict::Sat(interp)) => Some(interp),
+        Some(Verdict::Unsat(_)) | Some(Verdict::Unknown(_)) | None => None,
     }
 }
 
 /// The derivation of the last verdict with the number of its check, where that verdict stands, has one, and is of a check without
 /// assumptions.
 pub(crate) fn kept_derivation<'a>(
-    verdicts: &'a [Verdict],
+    last: &'a Option<Verdict>,
     kept: &Option<Asked>,
 ) -> Option<(u64, &'a Derivation)>
-    ensures value { derivation_seen result ≡ derivation_kept (kept_of verdicts.now kept.now) }
+    ensures value { derivation_seen result ≡ derivation_kept (kept_of last.now kept.now) }
 {
     let number = kept_number(kept)?;
-    let derivation = kept_refutation(verdicts, kept)?;
+    let derivation = kept_refutation(last, kept)?;
     Some((number, derivation))
 }
 
@@ -75,17 +90,17 @@ fn kept_number(kept: &Option<Asked>) -> Option<u64>
 
 /// The derivation of the last verdict, where that stands and has one.
 pub(crate) fn kept_refutation<'a>(
-    verdicts: &'a [Verdict],
+    last: &'a Option<Verdict>,
     kept: &Option<Asked>,
 ) -> Option<&'a Derivation>
-    ensures value { derived_seen result ≡ derived_kept (kept_of verdicts.now kept.now) }
+    ensures value { derived_seen result ≡ derived_kept (kept_of last.now kept.now) }
 {
-    if kept.is_none() || verdicts.is_empty() {
+    if kept.is_none() {
         return None;
     }
-    match &verdicts[verdicts.len() - 1] {
-        Verdict::Unsat(derivation) => Some(derivation),
-        Verdict::Sat(_) | Verdict::Unknown(_) => None,
+    match last {
+        Some(Verdict::Unsat(derivation)) => Some(derivation),
+        Some(Verdict::Sat(_)) | Some(Verdict::Unknown(_)) | None => None,
     }
 }
 
@@ -110,14 +125,14 @@ pub(crate) fn is_of_assumptions(kept: &Option<Asked>) -> bool
 }
 
 /// Whether the last verdict stands and is printed as `unknown`.
-pub(crate) fn is_undecided(verdicts: &[Verdict], kept: &Option<Asked>) -> bool
-    ensures value { result ≡ undecided_kept (kept_of verdicts.now kept.now) }
+pub(crate) fn is_undecided(last: &Option<Verdict>, kept: &Option<Asked>) -> bool
+    ensures value { result ≡ undecided_kept (kept_of last.now kept.now) }
 {
-    if kept.is_none() || verdicts.is_empty() {
+    if kept.is_none() {
         return false;
     }
-    match &verdicts[verdicts.len() - 1] {
-        Verdict::Unknown(_) => true,
-        Verdict::Sat(_) | Verdict::Unsat(_) => false,
+    match last {
+        Some(Verdict::Unknown(_)) => true,
+        Some(Verdict::Sat(_)) | Some(Verdict::Unsat(_)) | None => false,
     }
 }

@@ -1,4 +1,4 @@
-//! What holds of checks. A theorem is the contract of a function that does nothing.
+//! Theorems about checks. Each is the contract of a function that does nothing.
 ghost use Rattle.std.specs.Prelude.{◌≡◌, ◌⊎◌, ℕ, suc, ◌≤◌, ◌^◌, Ok, codes};
 ghost use Rattle.ct_closure.specs.Closed.{HasMoreThan, HasVariables, most_closure_terms};
 ghost use Rattle.ct_command.specs.Command.{check_sat};
@@ -11,7 +11,7 @@ ghost use Rattle.ct_step.specs.Step.{CommandEffect, Steps};
 use ct_sorts::growth;
 use ct_terms::one_lasting_sort;
 
-/// The theorem on checks that are decided, for whoever relies on it. The function does nothing.
+/// The theorem that checks are decided. The function does nothing.
 pub fn decided_checks()
     // Where the closure of the assertions has at most 200,000 terms and V propositional variables, and 2^V - 1 decisions or more
     // are allowed, a check is answered `sat` or `unsat`.

@@ -1,7 +1,7 @@
 //! Tests of whole runs of the solver, over a desk and a sink in memory. Each line of standard
 //! input is a case: `(NAME run SCRIPT SETTING ..)` runs the script
 //! under the name `s`, `(NAME words (WORD ..) SCRIPT SETTING ..)` under these arguments, and
-//! shows on one line the status, the verdicts, the errors, the cores that were shrunk, and what was written; where a call of the desk
+//! shows on one line the status, the answers of checks, the errors, the last core that was shrunk, and what was written; where a call of the desk
 //! fails, or `(counts-calls)` asks for it, also how often it was called. `every-call`, `every-write`,
 //! `every-prefix` and `every-prefix-of-the-proof` in place of `run` run the script, or the audit where there
 //! is a derivation or a model, cut short at every such place, with a line for each stretch of places with one outcome.

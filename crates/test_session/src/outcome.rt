@@ -1,13 +1,12 @@
 //! What is shown of a run.
 use crate::setting::{Setting, desk_of, sink_of};
 use ct_cases::{CaseError, show_bytes};
-use ct_engine::Verdict;
 use ct_io::{Status, Text};
-use ct_run::{Report, run};
+use ct_run::{CheckResponse, Report, run};
 use ct_shrink::{Need, Shrunk};
 use std::alloc::Global;
 
-/// Runs the script, and shows what comes of it: the status, the verdicts, the errors, the cores that were shrunk, what was written,
+/// Runs the script, and shows what comes of it: the status, the answers of checks, the errors, the last core that was shrunk, what was written,
 /// and, where the setting asks for it, how often the desk was called. Gives the status.
 pub fn show_outcome(
     alloc: Global,
@@ -29,17 +28,17 @@ pub fn show_outcome(
     Ok(report.status)
 }
 
-/// Shows the status, the verdicts, the errors, each with its line and its number, and the cores that were shrunk.
+/// Shows the status, the answers of checks, the errors, each with its line and its number, and the last core that was shrunk.
 fn show_report(alloc: Global, report: &Report, out: &mut String) -> Result<(), CaseError> {
     out.push_str(format!(in alloc; " {:?}", report.status)?.as_str())?;
-    for verdict in &report.verdicts {
+    for response in &report.responses {
         out.push(' ')?;
-        out.push_str(word_of(verdict))?;
+        out.push_str(word_of(*response))?;
     }
     for (line, code) in &report.errors {
         out.push_str(format!(in alloc; " line-{line}-E{code}")?.as_str())?;
     }
-    for core in &report.shrunk {
+    if let Some(core) = &report.shrunk {
         show_core(alloc, core, out)?;
     }
     Ok(())
@@ -67,11 +66,11 @@ fn mark_of(need: &Need) -> char {
     }
 }
 
-/// The word of a verdict.
-fn word_of(verdict: &Verdict) -> &'static str {
-    match verdict {
-        Verdict::Sat(_) => "sat",
-        Verdict::Unsat(_) => "unsat",
-        Verdict::Unknown(_) => "unknown",
+/// The word of an answer.
+fn word_of(response: CheckResponse) -> &'static str {
+    match response {
+        CheckResponse::Sat => "sat",
+        CheckResponse::Unsat => "unsat",
+        CheckResponse::Unknown => "unknown",
     }
 }

@@ -8,6 +8,6 @@ use Rattle.ct_run.proofs.counts.count_unknown.Goals as goal
 pub returns : goal.returns
 returns c = record {
   count = count_from_yields_List c.filter.result _ c.count.ensures.ran
-      (YieldsList-from_filter _ spec.is_unknown (YieldsList-from_slice c.args.verdicts.now (cc)) c.filter.ensures.closure (λ x b q k. search (rules, tests)))
-      ∙ length-filter spec.is_unknown c.args.verdicts.now;
+      (YieldsList-from_filter _ spec.is_unknown (YieldsList-from_slice c.args.responses.now (cc)) c.filter.ensures.closure (λ x b q k. search (rules, tests)))
+      ∙ length-filter spec.is_unknown c.args.responses.now;
 }

@@ -6,8 +6,8 @@ pub returns-clause-counted : goal.returns-clause-counted
 returns-clause-counted g c = λ n solved is.
     elim c.match-write_all.branch [
       | in-Ok w ↦ rw (c.without_errors.ensures.status, w.status-is)
-          (whole_report n _ _ _ _ _ _ c.without_errors.ensures.verdicts (record { no_core = c.without_errors.ensures.shrunk; no_error = c.without_errors.ensures.errors }) solved is (rw c.as_bytes.ensures.value at w.in-Ok.ensures.ok))
+          (whole_report n _ _ _ _ _ _ c.without_errors.ensures.responses c.without_errors.ensures.alone solved is (rw c.as_bytes.ensures.value at w.in-Ok.ensures.ok))
       | in-Err w ↦ rw (c.without_errors.ensures.status, w.status-is, w.status_of-status.ensures.value)
-          (broken_report w.in-Err.error n _ _ _ _ _ _ c.without_errors.ensures.verdicts (record { no_core = c.without_errors.ensures.shrunk; no_error = c.without_errors.ensures.errors }) solved is
+          (broken_report w.in-Err.error n _ _ _ _ _ _ c.without_errors.ensures.responses c.without_errors.ensures.alone solved is
           (rw c.as_bytes.ensures.value at w.in-Err.ensures.refused))
     ]

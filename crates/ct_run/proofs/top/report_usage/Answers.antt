@@ -1,4 +1,3 @@
-use Rattle.ct_step.proofs.EvidenceLemmas.{both_same}
 use Rattle.ct_run.proofs.RunLemmas.{ReportsUsage-broke}
 use Rattle.ct_run.proofs.top.report_usage.Goals.{in-Ok, in-Err}
 use Rattle.ct_run.proofs.top.report_usage.Goals as goal
@@ -7,7 +6,7 @@ pub returns-clause-reported : goal.returns-clause-reported
 returns-clause-reported g c =
     elim c.match-write_all.branch [
       | in-Ok w ↦ rw (c.unanswered.ensures.status, w.status-is)
-          ((both_same _ _ _ _ c.unanswered.ensures.verdicts c.unanswered.ensures.shrunk), c.unanswered.ensures.errors, rw c.as_bytes.ensures.value at w.in-Ok.ensures.ok)
+          (c.unanswered.ensures.kept, c.unanswered.ensures.errors, rw c.as_bytes.ensures.value at w.in-Ok.ensures.ok)
       | in-Err w ↦ rw (c.unanswered.ensures.status, w.status-is, w.status_of-status.ensures.value)
-          (ReportsUsage-broke w.in-Err.error _ _ _ _ (both_same _ _ _ _ c.unanswered.ensures.verdicts c.unanswered.ensures.shrunk) c.unanswered.ensures.errors (rw c.as_bytes.ensures.value at w.in-Err.ensures.refused))
+          (ReportsUsage-broke w.in-Err.error _ _ _ _ c.unanswered.ensures.kept c.unanswered.ensures.errors (rw c.as_bytes.ensures.value at w.in-Err.ensures.refused))
     ]

@@ -1,10 +1,13 @@
 use Rattle.ct_command.specs.Reading.{command}
 use Rattle.ct_step.specs.Step.{counted}
-use Rattle.ct_script.proofs.OneStackLemmas.{steps_alike, check_rests, replayed_alike, replayed_counted, replayed_told, leads_alike, leads_counted, answers_through}
+use Rattle.ct_script.proofs.OneStackLemmas.{steps_one, steps_stop, check_rests, replayed_alike, replayed_counted, replayed_told, leads_alike, leads_counted, answers_through}
 use Rattle.ct_script.proofs.theorems.replayed_scripts.Goals as goal
 
 pub returns-clause-step : goal.returns-clause-step
-returns-clause-step c = steps_alike c.additions.ensures.same
+returns-clause-step c = λ s t number count line read e f one h k. steps_one c.additions.ensures.same s t number count line read e f one h k
+
+pub returns-clause-stop : goal.returns-clause-stop
+returns-clause-stop c = λ s t number count line read e f one decided h k. steps_stop c.additions.ensures.same s t number count line read e f one h k decided
 
 pub returns-clause-check : goal.returns-clause-check
 returns-clause-check c = check_rests

@@ -1,5 +1,4 @@
 use Rattle.std.proofs.Common.{◌≡◌, List, Some, sym, subst}
-use Rattle.ct_engine.specs.declared.verdict.Verdict.{Verdict}
 use Rattle.ct_eval.specs.Interpretation.{IsProper}
 use Rattle.ct_model.specs.ModelText.{IsModelText}
 use Rattle.ct_stack.specs.Stack.{Context}
@@ -11,13 +10,13 @@ use Rattle.ct_step.proofs.ask.model.Goals as goal
 pub model_text-requires : goal.model_text-requires
 model_text-requires c =
     let i = c.in-Some.interp.now in
-    let stands : model_kept (kept_of c.args.state.now.verdicts.items c.args.state.now.kept) ≡ Some i = subst (λ (vs : List Verdict). model_kept (kept_of vs c.args.state.now.kept) ≡ Some i) c.as_slice.ensures.value (sym c.in-Some.ensures.value) in
+    let stands : model_kept (kept_of c.args.state.now.last c.args.state.now.kept) ≡ Some i = sym c.in-Some.ensures.value in
     record { proper = subst (λ (x : Context). IsProper x.declarations i) (sym c.scope.ensures.value) (c.requires.sound.own.proper i stands) }
 
 pub returns-in-Ok : goal.returns-in-Ok
 returns-in-Ok c =
     let i = c.in-Some.interp.now in
-    let stands : model_kept (kept_of c.args.state.now.verdicts.items c.args.state.now.kept) ≡ Some i = subst (λ (vs : List Verdict). model_kept (kept_of vs c.args.state.now.kept) ≡ Some i) c.as_slice.ensures.value (sym c.in-Some.ensures.value) in
+    let stands : model_kept (kept_of c.args.state.now.last c.args.state.now.kept) ≡ Some i = sym c.in-Some.ensures.value in
     record {
       done = λ number.
           model_answered c.args.state.now i stands number c.in-Ok.text.items c.said.result

@@ -3,7 +3,6 @@ use Rattle.ct_sorts.specs.Declarations.{Declarations}
 use Rattle.ct_terms.specs.Terms.{AreSorted}
 use Rattle.ct_log.specs.Recorded.{Derived, Recorded}
 use Rattle.ct_log_text.specs.Written.{expression_of_record, text_of}
-use Rattle.ct_engine.specs.declared.verdict.Verdict.{Verdict}
 use Rattle.ct_stack.specs.Stack.{Context}
 use Rattle.ct_step.specs.State.{derivation_kept}
 use Rattle.ct_step.specs.Done.{kept_of}
@@ -14,7 +13,7 @@ use Rattle.ct_step.proofs.ask.proof.Goals as goal
 pub derivation_text-requires : goal.derivation_text-requires
 derivation_text-requires c =
     let p : ℕ × Derived = (c.in-Some.number, c.in-Some.derivation.now) in
-    let stands : derivation_kept (kept_of c.args.state.now.verdicts.items c.args.state.now.kept) ≡ Some p = subst (λ (vs : List Verdict). derivation_kept (kept_of vs c.args.state.now.kept) ≡ Some p) c.as_slice.ensures.value (sym c.in-Some.ensures.value) in
+    let stands : derivation_kept (kept_of c.args.state.now.last c.args.state.now.kept) ≡ Some p = sym c.in-Some.ensures.value in
     record {
       fits =
           subst (λ (x : Context). AreSorted x.declarations c.rec.result.now.terms) (sym c.scope.ensures.value)
@@ -25,7 +24,7 @@ derivation_text-requires c =
 pub returns-in-Ok : goal.returns-in-Ok
 returns-in-Ok c =
     let p : ℕ × Derived = (c.in-Some.number, c.in-Some.derivation.now) in
-    let stands : derivation_kept (kept_of c.args.state.now.verdicts.items c.args.state.now.kept) ≡ Some p = subst (λ (vs : List Verdict). derivation_kept (kept_of vs c.args.state.now.kept) ≡ Some p) c.as_slice.ensures.value (sym c.in-Some.ensures.value) in
+    let stands : derivation_kept (kept_of c.args.state.now.last c.args.state.now.kept) ≡ Some p = sym c.in-Some.ensures.value in
     let written =
     c.in-Ok.ensures.text
     ∙ ap (λ (x : Context). text_of (expression_of_record x.declarations c.in-Some.number c.rec.result.now)) c.scope.ensures.value

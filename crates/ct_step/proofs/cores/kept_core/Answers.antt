@@ -1,6 +1,5 @@
 use Rattle.std.proofs.Common.{◌≡◌, ◌∙◌, List, Some, sym, ap, subst}
 use Rattle.ct_sorts.specs.Consistent.{IsConsistent}
-use Rattle.ct_engine.specs.declared.verdict.Verdict.{Verdict}
 use Rattle.ct_stack.specs.Stack.{Context}
 use Rattle.ct_step.specs.State.{derived_kept}
 use Rattle.ct_step.specs.Done.{kept_of}
@@ -12,7 +11,7 @@ core_of_derivation-requires c =
     let s = c.args.state.now in
     let d = c.in-Some.derivation.now in
     let is = ap (λ (x : Context). x.declarations) c.scope.ensures.value in
-    let stands : derived_kept (kept_of s.verdicts.items s.kept) ≡ Some d = subst (λ (vs : List Verdict). derived_kept (kept_of vs s.kept) ≡ Some d) c.as_slice.ensures.value (sym c.in-Some.ensures.value) in
+    let stands : derived_kept (kept_of s.last s.kept) ≡ Some d = sym c.in-Some.ensures.value in
     let own = kept_refutes c.meanings.ensures.assertions c.cores_of_refutations.ensures.refuted s c.requires.sound c.scope.ensures.sound (subst IsConsistent is c.sorts.ensures.consistent) d stands in
     record { declarations = own.4.declarations ∙ sym is }
 
@@ -21,7 +20,7 @@ returns c =
     let s = c.args.state.now in
     let d = c.in-Some.derivation.now in
     let is = ap (λ (x : Context). x.declarations) c.scope.ensures.value in
-    let stands : derived_kept (kept_of s.verdicts.items s.kept) ≡ Some d = subst (λ (vs : List Verdict). derived_kept (kept_of vs s.kept) ≡ Some d) c.as_slice.ensures.value (sym c.in-Some.ensures.value) in
+    let stands : derived_kept (kept_of s.last s.kept) ≡ Some d = sym c.in-Some.ensures.value in
     let r = c.core_of_derivation.result in
     record {
       core =

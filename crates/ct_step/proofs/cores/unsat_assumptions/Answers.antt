@@ -7,7 +7,7 @@ pub returns-then-not-is_of_assumptions : goal.returns-then-not-is_of_assumptions
 returns-then-not-is_of_assumptions c =
     let old = c.args.state.now in
     let other : is_of_assumptions old.kept ≡ false = sym c.is_of_assumptions.ensures.value ∙ c.if-not-is_of_assumptions.true in
-    record { done = λ number. (inl (refl, not_of_assumptions old.verdicts.items old.kept other), record { stack = refl; labels = refl; options = refl; verdicts = refl; shrunk = refl; kept = refl }) }
+    record { done = λ number. (inl (refl, not_of_assumptions old.last old.kept other), record { stack = refl; labels = refl; options = refl; diagnostic_output = refl; responses = refl; last = refl; shrunk = refl; kept = refl }) }
 
 pub returns : goal.returns
 returns c =

@@ -17,6 +17,11 @@ returns-in-SetOption c =
     let o = apart c.args.state.now c.set_option.new.state c.args.number c.growing.ensures.hold c.set_option.result c.args.command _ c.args.store.now c.requires.sound c.in-SetOption.is refl (c.set_option.ensures.done c.args.number) in
     record { done = o.done; stored = o.stored; sound = o.sound; known = c.requires.known }
 
+pub returns-in-SetDiagnosticOutput : goal.returns-in-SetDiagnosticOutput
+returns-in-SetDiagnosticOutput c =
+    let o = apart c.args.state.now c.set_diagnostic_output.new.state c.args.number c.growing.ensures.hold c.set_diagnostic_output.result c.args.command _ c.args.store.now c.requires.sound c.in-SetDiagnosticOutput.is refl (c.set_diagnostic_output.ensures.done c.args.number) in
+    record { done = o.done; stored = o.stored; sound = o.sound; known = c.requires.known }
+
 pub returns-in-GetOption : goal.returns-in-GetOption
 returns-in-GetOption c =
     let o = apart c.args.state.now c.args.state.now c.args.number c.growing.ensures.hold c.get_option.result c.args.command _ c.args.store.now c.requires.sound c.in-GetOption.is refl (c.get_option.ensures.done c.args.number) in

@@ -22,12 +22,12 @@ pub returns-in_ok-answer-in-Err-Refused-clause-stepped : goal.returns-in_ok-answ
 returns-in_ok-answer-in-Err-Refused-clause-stepped c =
     let s = c.self.inside in
     let refused = rw c.in-Err-Refused.field-0-is at c.in-Err-Refused.ensures.done in
-    not_done s.state s.number s.errors.items s.store c.args.self.now c.self.view_is c.args.line c.perform.new.state c.counted-number.result c.perform.new.store (command_seen c.args.command) c.counted-number.ensures.value c.in-Err-Refused.code c.in_ok-answer-in-Err-Refused.answer c.refused.new.errors.items refused c.in_ok-answer-in-Err-Refused.ensures.stored (c.in_ok-answer-in-Err-Refused.ensures.answer (state_of s.state))
+    not_done s.state s.number s.errors.items s.store c.args.self.now c.self.view_is c.args.line c.perform.new.state c.counted-number.result c.perform.new.store (command_seen c.args.command) c.counted-number.ensures.value c.in-Err-Refused.code c.in_ok-answer-in-Err-Refused.answer c.refused.new.errors.items refused c.in_ok-answer-in-Err-Refused.ensures.stored (c.in_ok-answer-in-Err-Refused.ensures.answer (state_of s.state) refl)
 
 pub returns-in_ok-answer-in-Err-Refused-clause-stored : goal.returns-in_ok-answer-in-Err-Refused-clause-stored
 returns-in_ok-answer-in-Err-Refused-clause-stored c =
     let s = c.self.inside in
-    rw c.in-Err-Refused.ensures.stored (store_left s.state s.number s.errors.items s.store c.args.self.now c.self.view_is c.args.line (Ok (command_seen c.args.command)) c.in-Err-Refused.code c.in_ok-answer-in-Err-Refused.answer _ (c.in_ok-answer-in-Err-Refused.ensures.answer (state_of s.state)))
+    rw c.in-Err-Refused.ensures.stored (store_left s.state s.number s.errors.items s.store c.args.self.now c.self.view_is c.args.line (Ok (command_seen c.args.command)) c.in-Err-Refused.code c.in_ok-answer-in-Err-Refused.answer _ (c.in_ok-answer-in-Err-Refused.ensures.answer (state_of s.state) refl))
 
 pub returns-in_err-answer-in-Err-Refused-clause-unchanged : goal.returns-in_err-answer-in-Err-Refused-clause-unchanged
 returns-in_err-answer-in-Err-Refused-clause-unchanged c =
