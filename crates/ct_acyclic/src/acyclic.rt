@@ -13,9 +13,10 @@ use ct_congr::Classes;
 use ct_ordering::Ordered;
 use std::alloc::Global;
 
-/// The classes of datatypes, each after those under its constructor terms, or a cycle through constructor terms of datatypes,
-/// where there is one. A cycle through codatatypes is none. The classes are to be closed without a clash. The time and the
-/// memory are linear in the terms and their arguments. After a cycle the classes hold in no model (Reynolds and Blanchette 2015, section 4).
+/// The classes of datatypes, each after those under its constructor terms, or a cycle through constructor terms of
+/// datatypes, if there is one. A cycle through codatatypes is none. The classes are to be closed without a clash. The
+/// time and the memory are linear in the terms and their arguments. After a cycle the classes hold in no model
+/// (Reynolds and Blanchette 2015, section 4).
 pub fn order(alloc: Global, classes: &Classes) -> Result<Order, OrderError>
     requires quiet { IsQuiet classes.now }
     ensures order { IfOk result (λ order. IsClassOrder classes.now order.reps.items) }

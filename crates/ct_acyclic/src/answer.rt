@@ -1,4 +1,4 @@
-//! An order of the classes, or why there is none.
+//! An order of the classes, or the cycle because of which there is none.
 ghost use Rattle.std.specs.Prelude.{◌≡◌};
 ghost use Rattle.ct_acyclic.specs.declared.answer.OrderError.TheVariants.{NoMemory};
 

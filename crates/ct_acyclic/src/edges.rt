@@ -1,5 +1,5 @@
-//! The graph of classes of datatypes: under the representative of a class stand the representatives of the arguments of its
-//! constructor term.
+//! The graph of the classes of datatypes: the children of a class's representative are the representatives of the arguments of
+//! its constructor term.
 ghost use Rattle.std.specs.Prelude.{◌≡◌, ◌<◌, ◌-◌, ℕ, length, IfOk, OnOk};
 ghost use Rattle.std.specs.List.{AllByRecursion};
 ghost use Rattle.ct_sorts.specs.declared.ids.SortId.{SortId};

@@ -1,4 +1,4 @@
-//! A cycle of points as a cycle of constructor terms.
+//! Turns a cycle of points into a cycle of constructor terms.
 ghost use Rattle.std.specs.Prelude.{◌≡◌, ℕ, ◌<◌, length, Some, slice_get, IfOk};
 ghost use Rattle.std.specs.List.{AllZip};
 ghost use Rattle.ct_terms.specs.declared.ids.TermId.{TermId};

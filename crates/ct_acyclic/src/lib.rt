@@ -1,4 +1,4 @@
-//! Topological orders of the classes of datatype sorts, or cycles through their constructor terms.
+//! Orders the classes of datatypes topologically, or finds a cycle through their constructor terms.
 #![tactic(auto)]
 
 mod acyclic;

@@ -1,4 +1,4 @@
-//! Which values open classes get: such that no two classes have one value.
+//! Chooses values for open classes such that no two classes have the same value.
 //!
 //! Two classes of one value lead down to an open class and another class with its value, or to two classes that a
 //! bisimulation relates, which are one. For two classes at most one value of an open class makes them have one value

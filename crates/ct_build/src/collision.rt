@@ -1,4 +1,4 @@
-//! Two classes of one value.
+//! Finds two classes with the same value.
 ghost use Rattle.std.specs.Prelude.{◌≡◌, ℕ, ◌<◌, length, Option, Some, slice_get, IfOk, IfSome, IfNone};
 ghost use Rattle.ct_values.specs.declared.node.NodeId.{NodeId};
 ghost use Rattle.ct_values.specs.Graph.{IsClosed};

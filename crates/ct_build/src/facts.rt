@@ -1,4 +1,4 @@
-//! What holds of all classes.
+//! Facts about all classes.
 ghost use Rattle.std.specs.Prelude.{◌≡◌, ◌≤◌, length};
 ghost use Rattle.ct_sorts.specs.declared.ids.SortId.{SortId};
 ghost use Rattle.ct_sorts.specs.Consistent.{IsConsistent};

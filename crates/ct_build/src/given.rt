@@ -1,4 +1,4 @@
-//! A node for each term before its class has one: the chosen one of an open class or its mark, and else that of its sort.
+//! A node for each term before its class has one: for an open class the chosen node or its mark, otherwise that of its sort.
 ghost use Rattle.std.specs.Prelude.{◌≡◌, ℕ, ◌<◌, ◌≤◌, length, Some, slice_get, IfOk};
 ghost use Rattle.ct_sorts.specs.Grown.{Begins};
 ghost use Rattle.ct_values.specs.declared.node.NodeId.{NodeId};

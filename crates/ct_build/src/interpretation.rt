@@ -26,8 +26,8 @@ use ct_sorts::Signature;
 use ct_terms::TermTable;
 use std::alloc::Global;
 
-/// A well-formed interpretation of classes in which each class has a value of its own: two terms of one sort have the same
-/// value exactly where they are of one class (Reynolds and Blanchette 2015, section 4, on models).
+/// A well-formed interpretation of classes in which each class has a value of its own: two terms of one sort have the
+/// same value exactly if they are in one class (Reynolds and Blanchette 2015, section 4, on models).
 ///
 /// A class with a constructor term has the constructor over the values of its arguments' classes, a class of an infinite
 /// sort without one a value that is chosen, and any other the default value of its sort. A function has a row for each list

@@ -1,4 +1,22 @@
-//! Interpretations of congruence classes: each class gets a value, and functions and selectors get tables.
+//! Interpretations built from congruence classes: each class gets a value, and functions and selectors get tables.
+//!
+//! Design choices:
+//!
+//! **The value of a class.** A class with a constructor term gets that constructor over the values of its arguments' classes. A
+//! class of an infinite sort without one is *open*, and its value is chosen. Any other class gets the default value of its
+//! sort. A function has a row for each list of values to which the terms apply it, and a selector one for each value of another
+//! constructor to which it is applied.
+//!
+//! **Values of open classes.** Open classes must get values such that no two classes have the same value. All are tried at
+//! once, with values that are 1, 2, 4 and up to 4,096 numbers apart. If none of these works, values are chosen one after the
+//! other, while each open class without a value has a mark: an element of a sort that no signature has. For two classes, at
+//! most one value of an open class makes their values equal. The search therefore need not backtrack, and one of as many values
+//! as there are pairs of terms, plus one, works.
+//!
+//! **Why two classes have different values.** If all open classes have marks, classes with the same value are related by a
+//! bisimulation, so they are one class. If a value makes two classes equal, they lead down to its open class and to another
+//! class with that value. Two values that do so for one pair of classes are the same to each depth, since the children of
+//! either are the other's, or lead down again.
 #![tactic(auto)]
 
 mod choice;

@@ -1,4 +1,4 @@
-//! Tables of selectors where they are wrongly applied.
+//! Tables of selectors for wrong applications.
 ghost use Rattle.std.specs.Prelude.{◌≡◌, ℕ, ◌+◌, ◌<◌, List, [], length, Some, slice_get, IfOk, OnOk, MatchBool};
 ghost use Rattle.ct_terms.specs.declared.ids.TermId.{TermId};
 ghost use Rattle.ct_congr.specs.State.{IsQuiet};

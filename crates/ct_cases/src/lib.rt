@@ -1,5 +1,4 @@
-//! Cases of the test programs: what stands in a line, declarations that it names, and bytes as
-//! they are shown.
+//! The cases of the test programs: the parts of a line, the declarations that it names, and bytes as they are shown.
 #![tactic(auto)]
 
 mod bytes;

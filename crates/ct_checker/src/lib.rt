@@ -1,4 +1,4 @@
-//! The check of a derivation: no line that is accepted is false in a model.
+//! The checker of derivations. No accepted line is false in a model of the assertions.
 #![tactic(auto)]
 
 mod checker;

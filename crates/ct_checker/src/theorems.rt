@@ -1,4 +1,4 @@
-//! What holds of derivations. A theorem is the contract of a function that does nothing.
+//! Theorems about derivations. Each is the contract of a function that does nothing.
 ghost use Rattle.std.specs.Prelude.{List, All};
 ghost use Rattle.ct_sorts.specs.Declarations.{Declarations};
 ghost use Rattle.ct_sorts.specs.Consistent.{IsConsistent};

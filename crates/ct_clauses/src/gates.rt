@@ -1,4 +1,4 @@
-//! The lines of gates: what Boolean terms and choices mean. One function a kind of term.
+//! The lines of gates: what Boolean terms and choices mean. There is one function for each kind of term.
 ghost use Rattle.std.specs.Prelude.{◌≡◌, ◌<◌, ℕ, List, [], ◌∷◌, ◌++◌, length, take, All, Some, slice_get, OnOk, IfErr};
 ghost use Rattle.ct_sorts.specs.declared.ids.SortId.{SortId};
 ghost use Rattle.ct_sorts.specs.Declarations.{Declarations, bool_sort};

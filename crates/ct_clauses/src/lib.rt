@@ -1,4 +1,4 @@
-//! The initial lines of a derivation: the clauses of assertions, gates and splits that a search begins with.
+//! The initial lines of a derivation: the clauses of assertions, gates and splits with which a search begins.
 #![tactic(auto)]
 
 mod exhausts;

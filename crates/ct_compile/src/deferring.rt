@@ -1,4 +1,4 @@
-//! A formula is compiled with a bounded depth of the stack: calls of definitions that lie too deep are compiled first.
+//! Compiles a formula with bounded stack depth: calls of definitions that are too deep are compiled first.
 ghost use Rattle.std.specs.Prelude.{◌≡◌, suc, [], map, List, Some, IfOk, IsErrOf};
 ghost use Rattle.indexmap.specs.IndexMap.{get};
 ghost use Rattle.ct_terms.specs.CoreTree.{CoreTree};

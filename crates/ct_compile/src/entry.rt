@@ -1,4 +1,4 @@
-//! The core term of a formula: the call that scripts and checks make.
+//! The core term of a formula: the function that scripts and checks call.
 ghost use Rattle.std.specs.Prelude.{◌≡◌, ◌<◌, ◌≤◌, List, [], length, map, Contains, IfOk, IsErrOf};
 ghost use Rattle.ct_sorts.specs.declared.ids.SortId.{SortId};
 ghost use Rattle.ct_terms.specs.declared.ids.TermId.{TermId};

@@ -1,5 +1,5 @@
-//! What stays the same while a formula is compiled, or the body of a definition: the scope, what is worked out of the
-//! definitions, and how much room is left for calls under calls.
+//! What stays the same while a formula or the body of a definition is compiled: the scope, the notes on definitions, and how
+//! much room is left for nested calls.
 ghost use Rattle.std.specs.Prelude.{◌≡◌, ◌<◌, [], ◌∷◌, length, Some, slice_get, IfSome};
 ghost use Rattle.std.specs.List.{AllByRecursion};
 ghost use Rattle.ct_finite.specs.Counts.{AreCounts};

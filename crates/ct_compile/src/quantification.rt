@@ -1,4 +1,4 @@
-//! A quantifier while it is compiled: what it goes over, and its body.
+//! A quantifier while it is compiled: what it ranges over, and its body.
 ghost use Rattle.std.specs.Prelude.{◌≡◌, ◌<◌, List, length, Some, slice_get, OnOk, IfOk};
 ghost use Rattle.ct_listing.specs.Closed.{ClosedValue};
 ghost use Rattle.ct_formulas.specs.Choices.{choices_of};

@@ -1,4 +1,4 @@
-//! The assertions that cited lines are given, and the places where they stand first.
+//! The assertions that cited lines are given, and their first places.
 ghost use Rattle.std.specs.Prelude.{◌≡◌, ◌↔◌, ◌<◌, ◌∷◌, ◌++◌, [], suc, ◌⊎◌, Bool, List, All, length, IfOk, OnOk};
 ghost use Rattle.ct_terms.specs.declared.ids.TermId.{TermId};
 ghost use Rattle.ct_log.specs.declared.line.Step.TheVariants.{Input};

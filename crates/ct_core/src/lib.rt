@@ -1,4 +1,9 @@
-//! Derivations cut down to the lines that their last line rests on, and the cores of assertions.
+//! Trims derivations to the lines on which their last line rests, and extracts the cores of assertions.
+//!
+//! A design choice:
+//!
+//! **Cores are copies.** A verdict keeps its derivation, since it is reported, so `core_of` copies the table and the cited
+//! lines. Places are first places: an assertion that occurs twice has one place in a core, the first.
 #![tactic(auto)]
 
 mod copies;

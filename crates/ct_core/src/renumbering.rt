@@ -1,4 +1,4 @@
-//! The numbers that lines have after others are gone, and lines whose hints are renumbered.
+//! The numbers of lines after others are removed, and lines with renumbered hints.
 ghost use Rattle.std.specs.Prelude.{◌≡◌, ◌<◌, length, map, All, IfOk};
 ghost use Rattle.ct_core.specs.Cited.{hints_of};
 ghost use Rattle.ct_core.specs.Trimmed.{renumbered, renumbered_step};

@@ -1,4 +1,4 @@
-//! The lines that are cited.
+//! Finds the lines that are cited.
 //!
 //! A line names earlier lines alone: so one pass from the last line to the first, in which each line that is marked marks those
 //! that it names, marks them all.

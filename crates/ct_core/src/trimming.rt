@@ -1,4 +1,4 @@
-//! A derivation cut down to the lines that its last line rests on.
+//! Trims a derivation to the lines on which its last line rests.
 ghost use Rattle.std.specs.Prelude.{◌≡◌, ◌<◌, ℕ, suc, [], ◌∷◌, ◌++◌, List, length, All, OnOk};
 ghost use Rattle.ct_terms.specs.declared.ids.TermId.{TermId};
 ghost use Rattle.ct_log.specs.Acceptance.{IsAccepted, AreAccepted, Passes, clauses_of};
@@ -12,9 +12,9 @@ use crate::sweep::cited_marks;
 use ct_log::{Derivation, Line};
 use std::alloc::Global;
 
-/// Cuts the derivation down to the lines that are cited: the first ones, so many of them, the last one, and what these rest
-/// on (as drat-trim does it; Heule, Hunt and Wetzler 2013). The lines are renumbered with their hints. The time is linear
-/// in the lines, and neither terms nor declarations are copied.
+/// Trims the derivation to the lines that are cited: the first ones, as many as given, the last one, and what these
+/// rest on (as drat-trim does it; Heule, Hunt and Wetzler 2013). The lines are renumbered with their hints. The time is
+/// linear in the lines, and neither terms nor declarations are copied.
 ///
 /// Its only error is out of memory, after which the derivation holds some of the lines and is of no further use.
 pub fn trim(alloc: Global, derivation: &mut Derivation, kept: u64) -> Result<(), CoreError>

@@ -1,4 +1,4 @@
-//! The core of a derivation: a derivation of its own from those assertions alone that the last line rests on.
+//! The core of a derivation: a derivation of its own from only those assertions on which the last line rests.
 ghost use Rattle.std.specs.Prelude.{◌≡◌, ◌<◌, ℕ, suc, [], ◌∷◌, ◌++◌, List, length, All, IfOk, OnOk};
 ghost use Rattle.ct_card.specs.Sizes.{AreSizes};
 ghost use Rattle.ct_terms.specs.declared.ids.TermId.{TermId};
@@ -30,9 +30,9 @@ pub struct UnsatCore {
     pub derivation: Derivation,
 }
 
-/// The core of the derivation (SMT-LIB 2.7, section 4.2.7, on unsatisfiable cores): the lines that its last line rests on, and the
-/// assertions that these are given, each by the first place where it stands. The time is linear in the lines, the terms and
-/// the assertions, which are copied as far as they are kept.
+/// The core of the derivation (SMT-LIB 2.7, section 4.2.7, on unsatisfiable cores): the lines on which its last line
+/// rests, and the assertions that these lines are given, each by its first place. The time is linear in the lines, the
+/// terms and the assertions, which are copied as far as they are kept.
 ///
 /// Its only error is out of memory.
 pub fn core_of(

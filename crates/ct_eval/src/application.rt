@@ -1,4 +1,4 @@
-//! The value of a function at its arguments, which its table gives.
+//! The value of a function at its arguments, from the function's table.
 ghost use Rattle.std.specs.Prelude.{◌≡◌, ◌<◌, List, length, slice_get, Some, IfOk};
 ghost use Rattle.ct_sorts.specs.declared.ids.SortId.{SortId};
 ghost use Rattle.ct_sorts.specs.Declarations.{Declarations};

@@ -1,4 +1,4 @@
-//! Which assertion of a list is the first that an interpretation does not make true.
+//! Finds the first assertion of a list that an interpretation does not make true.
 
 ghost use Rattle.std.specs.Prelude.{◌≡◌, ◌<◌, length, All, IfOk, MatchOption};
 ghost use Rattle.ct_sorts.specs.Declarations.{Declarations};
@@ -18,7 +18,7 @@ use ct_terms::{TermId, TermTable};
 use ct_values::agreement;
 use std::alloc::Global;
 
-/// The index of the first assertion that is not true in the interpretation, or none where all are.
+/// The index of the first assertion that is not true in the interpretation, or none if all are.
 pub fn holds(
     alloc: Global,
     sig: &Signature,

@@ -1,4 +1,4 @@
-//! The rows of all tables in one map, so that what a table gives costs a look-up.
+//! The rows of all tables in one map, so that a table costs one look-up.
 //!
 //! A row is found by its table and the representatives of its arguments. Of the rows with one key
 //! the first stays.

@@ -1,4 +1,4 @@
-//! The value of a selector: a field where the term is built by the selector's constructor, and else what a table gives.
+//! The value of a selector: a field if the selector's constructor built the term, otherwise the entry of its table.
 ghost use Rattle.std.specs.Prelude.{◌≡◌, ◌<◌, [], ◌∷◌, List, length, slice_get, option_map, Some, IsTrue, IfOk};
 ghost use Rattle.ct_sorts.specs.declared.ids.SortId.{SortId};
 ghost use Rattle.ct_sorts.specs.Declarations.{Declarations, Selector};

@@ -1,4 +1,4 @@
-//! What holds of evaluation. A theorem is the contract of a function that does nothing.
+//! Theorems about evaluation. Each is the contract of a function that does nothing.
 ghost use Rattle.std.specs.Prelude.{◌≡◌, ◌↔◌, ◌<◌, true, false, not, List, [], ◌∷◌, ◌++◌, length};
 ghost use Rattle.std.specs.Prelude.{map, Option, Some, slice_get, if◌then◌else◌};
 ghost use Rattle.std.specs.List.{AllZip, AllByRecursion, list_all, list_any};

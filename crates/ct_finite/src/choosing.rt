@@ -1,4 +1,4 @@
-//! The choices of a value for each of several variables, by their numbers: the first variable changes slowest.
+//! Choices of a value for each of several variables, by their numbers; the first variable changes slowest.
 ghost use Rattle.std.specs.Prelude.{◌≡◌, ◌<◌, ◌≤◌, ◌+◌, ◌*◌, ◌/◌, ◌%◌, length, All, IfOk, if◌then◌else◌};
 ghost use Rattle.ct_finite.specs.Choosing.{first_like};
 ghost use Rattle.ct_finite.specs.Counts.{most_values, capped, count_at};

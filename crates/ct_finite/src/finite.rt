@@ -58,7 +58,7 @@ impl Finite {
         self.counts[s.0 as usize] > 0
     }
 
-    /// How many values the listable sort has, or `None` exactly where it has more than 4,096. Takes no memory.
+    /// How many values the listable sort has, or `None` exactly if it has more than 4,096. Takes no memory.
     pub fn count(&self, s: SortId) -> Option<u64>
         requires inside { s.0 < length self.now }
         ensures exact { (d : Declarations) → AreCounts d self.now → IsListable d s
@@ -71,8 +71,8 @@ impl Finite {
         Some(count)
     }
 
-    /// How many choices there are for variables of these listable sorts, or `None` exactly where there are more than 4,096. Takes no
-    /// memory.
+    /// How many choices of values there are for variables of these listable sorts, or `None` exactly if there are more
+    /// than 4,096. Takes no memory.
     pub fn choice_count(&self, sorts: &[SortId]) -> Option<u64>
         requires listable { (d : Declarations) × AreCounts d self.now × All (IsListable d) sorts.now }
         ensures exact { (d : Declarations) → AreCounts d self.now → All (IsListable d) sorts.now

@@ -1,4 +1,4 @@
-//! Which sorts are listable, with the number of values of each: a sort is known once the sorts of all its fields are.
+//! Which sorts are listable, with the number of values of each: a sort is known once the sorts of all of its fields are.
 //!
 //! `spread` counts for each sort how many fields are left whose sorts are not known, so that the sort is looked at once: the
 //! time is linear in the declarations (Dowling and Gallier 1984). That nothing more is listable is what the last plain round

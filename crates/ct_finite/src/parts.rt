@@ -1,4 +1,4 @@
-//! The entries of the list of a sort by their numbers: the constructor of an entry, and the numbers of what stands under it.
+//! The entries of the list of a sort, by their numbers: the constructor of an entry, and the numbers of its fields' values.
 ghost use Rattle.std.specs.Prelude.{◌≡◌, ◌<◌, ◌≤◌, length, slice_get, Contains, IfOk};
 ghost use Rattle.ct_sorts.specs.declared.ids.SortId.{SortId};
 ghost use Rattle.ct_sorts.specs.Declarations.{IsSort, IsConstructor};

@@ -1,4 +1,4 @@
-//! Formulas as trees: their sorts, the core terms that they compile to, and which variables occur in these.
+//! Formulas as trees: their sorts, the core terms that they compile to, and the variables that occur in these.
 #![tactic(auto)]
 
 mod theorems;

@@ -1,4 +1,4 @@
-//! What holds of formulas and their core terms. A theorem is the contract of a function that does nothing.
+//! Theorems about formulas and their core terms. Each is the contract of a function that does nothing.
 ghost use Rattle.std.specs.Prelude.{◌≡◌, ◌≤◌, ℕ, Bool, true, List, [], ◌∷◌, ◌++◌, Contains, length, take, Some, slice_get};
 ghost use Rattle.std.specs.List.{AllZip};
 ghost use Rattle.ct_sorts.specs.declared.ids.CtorId.{CtorId};
@@ -19,7 +19,7 @@ ghost use Rattle.ct_formulas.specs.Occurrence.{occurs, uses_below, occurs_in, Ar
 use ct_listing::listed_values;
 use ct_sorts::structure;
 
-/// The theorems on formulas, for whoever speaks of their core terms. The function does nothing.
+/// Theorems on formulas and their core terms. The function does nothing.
 pub fn formulas()
     // A well-sorted formula names declared definitions alone.
     ensures mentions { (d : Declarations) (env : List SortId) (t : Formula) (sort : SortId)
@@ -109,8 +109,8 @@ pub fn formulas()
     listed_values();
 }
 
-/// The theorems on scopes, declarations with a body for each definition, that grow and are cut
-/// back. The function does nothing.
+/// Theorems on scopes that grow and are cut back; a scope is declarations with a body for each definition. The function
+/// does nothing.
 pub fn scopes()
     // A formula that names definitions below a number names them below each greater one.
     ensures mentions_more { (m n : ℕ) (t : Formula)

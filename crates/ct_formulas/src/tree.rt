@@ -1,4 +1,4 @@
-//! Formulas as trees: what an expression is once its names and sorts are settled.
+//! Formulas as trees: expressions with all names and sorts resolved.
 
 use ct_sorts::{CtorId, DefId, FunId, SelId, SortId};
 

@@ -28,10 +28,10 @@ use std::alloc::Global;
 /// A limit would be passed.
 const TOO_MANY: u16 = 16;
 
-/// Adds sorts to those that are there, one after the other: nothing changes where one is there; else its arguments are
-/// added from left to right, then it comes last, unless it is there by now, and then the sorts of its fields are added in
-/// order. They are refused with 16 where one that would be added has a text longer than 65,536 bytes, or where there is no
-/// room.
+/// Adds sorts to the list, one after the other. A sort that is in the list changes nothing. Otherwise its arguments are
+/// added from left to right, then the sort itself unless it is in the list by now, and then the sorts of its fields in
+/// order. They are refused with 16 where one that would be added has a text longer than 65,536 bytes, or where there is
+/// no room.
 pub fn add_sorts(
     alloc: Global,
     g: &Generics,

@@ -1,4 +1,4 @@
-//! The sorts and generics of a block with their field sorts, as their names stand for them.
+//! The sorts and generics of a block with the sorts of their fields, which their names stand for.
 ghost use Rattle.std.specs.Prelude.{◌≡◌, ◌<◌, ℕ, List, length, Ok, Err, IfOk, IsErrOf};
 ghost use Rattle.std.specs.List.{AllZip};
 ghost use Rattle.ct_generics.specs.Expression.{Expression};

@@ -1,4 +1,4 @@
-//! Equal copies of what is declared and of the sorts.
+//! Copies of declarations and of sorts.
 ghost use Rattle.std.specs.Prelude.{◌≡◌, IfOk, IfErr};
 
 use crate::error::GenericError;

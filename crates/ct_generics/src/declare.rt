@@ -1,5 +1,5 @@
-//! Blocks of sorts and generics: their names are declared first, then their field sorts, and then they are refused for what a
-//! block must not do.
+//! Blocks of sorts and generics: first their names are declared, then the sorts of their fields; finally the block is refused
+//! if it does what a block must not do.
 ghost use Rattle.std.specs.Prelude.{◌≡◌, ℕ, List, [], ◌∷◌, ◌++◌, length, map, take, Ok, Err, IfErr, IsErrOf, OnOk, OnErr};
 ghost use Rattle.ct_generics.specs.Declarations.{Declared, Head};
 ghost use Rattle.ct_generics.specs.Names.{IsListed};

@@ -1,4 +1,4 @@
-//! Indices for the images of fields, where these have none yet.
+//! Indices for the images of fields that have none yet.
 ghost use Rattle.std.specs.Prelude.{◌≡◌, ◌⊎◌, ◌<◌, ℕ, length, All, Some, slice_get, IfOk, IfErr};
 ghost use Rattle.std.specs.List.{AllZip};
 ghost use Rattle.ct_generics.specs.declared.nodes.ExprId.{ExprId};

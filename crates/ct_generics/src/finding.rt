@@ -9,7 +9,7 @@ use crate::error::GenericError;
 use crate::nodes::{ExprId, Expressions, Node};
 use std::alloc::Global;
 
-/// The number that an expression of the source has in the target, if it stands there. The only error is `NoMemory`.
+/// The number in the target of an expression of the source, if it is there. The only error is `NoMemory`.
 pub fn find_expression(
     alloc: Global,
     target: &Expressions,

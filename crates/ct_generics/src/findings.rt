@@ -1,5 +1,5 @@
-//! What is found out about the sorts and generics of a block from the graph of what they reach: whether one reaches too
-//! much, is mixed or is not well founded.
+//! What the graph of reached expressions says about the sorts and generics of a block: whether one reaches too much, is mixed,
+//! or is not well founded.
 ghost use Rattle.std.specs.Prelude.{◌≡◌, ◌↔◌, ◌<◌, ◌≤◌, ◌+◌, ℕ, not, List, length, Some, slice_get, IfOk, IfErr, IfSome, IfNone, IsTrue};
 ghost use Rattle.std.specs.List.{list_any};
 ghost use Rattle.ct_generics.specs.declared.nodes.ExprId.{ExprId};

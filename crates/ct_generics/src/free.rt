@@ -10,8 +10,8 @@ use crate::name::Name;
 use crate::names::Names;
 use std::alloc::Global;
 
-/// Whether no sort or generic that is declared has a name of the block, and no name stands twice in it. The only error is
-/// `NoMemory`.
+/// Whether no declared sort or generic has a name of the block, and no name occurs twice in the block. The only error
+/// is `NoMemory`.
 pub fn are_free(alloc: Global, g: &Generics, block: &[SortDecl]) -> Result<bool, GenericError>
     ensures free { IfOk result (λ free. IsTrue free ↔ AreFree g.now.head_names (map (λ (s : SortDecl). s.name) block.now)) }
     ensures err { IfErr result (λ e. e ≡ GenericError.NoMemory) }

@@ -32,7 +32,7 @@ pub struct Generics {
 }
 
 impl Generics {
-    /// Nothing.
+    /// No declarations.
     pub fn new(alloc: Global) -> Generics
         ensures nothing { AreDeclared result (record { heads = []; synonyms = [] }) }
     {
@@ -94,7 +94,7 @@ impl Generics {
             .as_slice()
     }
 
-    /// The expressions in which these stand.
+    /// The expressions to which these sorts belong.
     pub fn template(&self, h: HeadId) -> &Expressions
         requires within { (d : Declared) × AreDeclared self.now d × (h.0 < length d.heads) }
         ensures value { option_map (λ (stored : StoredHead). stored.template) (slice_get self.now.heads h.0) ≡ Some result.now }
@@ -147,7 +147,7 @@ impl Generics {
         is_listed(&self.synonym_names, name)
     }
 
-    /// Takes back all but the first sorts and generics and the first synonyms.
+    /// Removes all sorts and generics, and all synonyms, except the first ones.
     pub fn cut_to(&mut self, heads: usize, synonyms: usize)
         ensures first { (d : Declared) → AreDeclared self.old d → AreDeclared self.new (first_of heads synonyms d) }
     {

@@ -69,7 +69,7 @@ impl ExprIds {
         self.index_of(id).is_some()
     }
 
-    /// One more number at the end, which is not there yet. The only error is `NoMemory`.
+    /// Appends a number that is not in the list yet. The only error is `NoMemory`.
     pub fn push(&mut self, id: ExprId) -> Result<(), GenericError>
         requires fresh { (i : ℕ) → slice_get self.old i ≡ Some id → ⊥ }
         ensures ok { OnOk result (self.new ≡ self.old ++ id ∷ []) }
@@ -87,7 +87,7 @@ impl ExprIds {
         self.ids.truncate(len);
     }
 
-    /// The index of a number, which it gets here where it has none yet. The only error is `NoMemory`.
+    /// The index of a number, which is appended if it has none yet. The only error is `NoMemory`.
     pub fn insert(&mut self, id: ExprId) -> Result<usize, GenericError>
         ensures at { IfOk result (λ i. slice_get self.new i ≡ Some id) }
         ensures stay { Stay self.old self.new }

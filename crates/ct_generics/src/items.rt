@@ -48,7 +48,7 @@ impl<T> Items<T> {
         self.items
     }
 
-    /// One more item at the end. The only error is `NoMemory`.
+    /// Appends an item. The only error is `NoMemory`.
     pub fn push(&mut self, item: T) -> Result<(), GenericError>
     where
         T: Drop,

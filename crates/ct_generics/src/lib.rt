@@ -1,4 +1,11 @@
-//! Sorts with arguments: sort expressions, what generics and synonyms declare, and which blocks of them are refused.
+//! Parametric sorts: sort expressions, the declarations of generics and synonyms, and the blocks of them that are refused.
+//!
+//! A design choice:
+//!
+//! **Well founded.** The least set closed under its rules, defined as membership in every closed set. The code finds it with
+//! one round in an order in which datatypes come after the fields from which they are built, and with plain rounds until one
+//! changes nothing (`founded`). It comes before the limits on declarations in the order of causes, so the rounds may cover a
+//! block with more sorts than there may be.
 #![tactic(auto)]
 
 mod add;

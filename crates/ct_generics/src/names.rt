@@ -1,4 +1,4 @@
-//! Names, each with the number of its place among them.
+//! Names, each with its index among them.
 ghost use Rattle.std.specs.Prelude.{◌≡◌, ◌<◌, ◌^◌, [], ◌∷◌, ◌++◌, length, take, position, Some, slice_get, IfSome, IfErr, OnOk, OnErr, MatchOption};
 ghost use Rattle.std.specs.Str.{bytes_eq};
 ghost use Rattle.ct_generics.specs.Names.{AreDistinct, IsListed};
@@ -45,14 +45,14 @@ impl Names {
         self.entries.len()
     }
 
-    /// The place of a name.
+    /// The index of a name.
     pub fn find(&self, name: &[u8]) -> Option<usize>
         ensures place { result ≡ position (bytes_eq name.now) self.now }
     {
         self.entries.get_index_of(name)
     }
 
-    /// The name at a place.
+    /// The name at an index.
     pub fn name(&self, i: usize) -> &[u8]
         requires within { i < length self.now }
         ensures value { slice_get self.now i ≡ Some result.now }
@@ -61,7 +61,7 @@ impl Names {
         name.as_slice()
     }
 
-    /// One more name, which is not there yet. The only error is `NoMemory`.
+    /// Appends a name that is not in the list yet. The only error is `NoMemory`.
     pub fn push(&mut self, name: Name) -> Result<(), GenericError>
         requires fresh { IsListed self.old name → ⊥ }
         ensures ok { OnOk result (self.new ≡ self.old ++ name ∷ []) }

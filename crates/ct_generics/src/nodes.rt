@@ -66,7 +66,7 @@ impl Expressions {
         self.nodes.len()
     }
 
-    /// What stands at a number.
+    /// The node with a number.
     pub fn node(&self, n: ExprId) -> Node
         requires within { n.0 < length self.now }
         ensures value { slice_get self.now n.0 ≡ Some result }

@@ -1,6 +1,6 @@
-//! An order of the vertices of a graph in which a datatype that is well founded comes after the fields that it is built
-//! from, so that one round over it marks all of them. Nothing but the time of the rounds hangs on it. It takes time near the
-//! size of the graph: each constructor counts the fields that have not come yet (Dowling and Gallier 1984).
+//! An order of the vertices of a graph in which a well-founded datatype comes after the fields from which it is built, so that
+//! one round over it marks all of them. Only the time of the rounds depends on it. It takes time nearly linear in the size of
+//! the graph: each constructor counts the fields that have not come yet (Dowling and Gallier 1984).
 ghost use Rattle.std.specs.Prelude.{◌≡◌, IfErr};
 
 use crate::error::GenericError;

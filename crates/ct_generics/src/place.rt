@@ -1,4 +1,4 @@
-//! What is stored under a name.
+//! What is stored for a name.
 ghost use Rattle.std.specs.Prelude.{◌≡◌, ◌<◌, ℕ, List, length, Option, Some, None, slice_get, position, option_map, IfSome, IfNone};
 ghost use Rattle.std.specs.Str.{bytes_eq};
 ghost use Rattle.ct_generics.specs.Declarations.{Declared, Head, Synonym};

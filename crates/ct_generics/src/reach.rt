@@ -32,7 +32,7 @@ pub struct Reached {
     pub starts: Items<usize>,
 }
 
-/// The graph of what expressions reach, or none where they reach more than 4,096 together. The only error is `NoMemory`.
+/// The graph of what expressions reach, or none if together they reach more than 4,096. The only error is `NoMemory`.
 pub fn reached_graph(
     alloc: Global,
     heads: &[StoredHead],

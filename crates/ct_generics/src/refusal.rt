@@ -1,4 +1,4 @@
-//! With which error a block is refused once its names are known.
+//! The error with which a block is refused once its names are known.
 ghost use Rattle.std.specs.Prelude.{◌≡◌, ◌↔◌, ◌≤◌, ℕ, List, length, IsErrOf, OnOk, IsTrue};
 ghost use Rattle.ct_generics.specs.declared.kind.Kind.TheVariants.{Data};
 ghost use Rattle.ct_generics.specs.Declarations.{Head};

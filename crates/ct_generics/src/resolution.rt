@@ -21,8 +21,9 @@ const UNKNOWN_SORT: u16 = 12;
 /// A name has a wrong number of arguments.
 const WRONG_COUNT: u16 = 22;
 
-/// The number of what a written expression stands for. It is refused with 12 at an unknown name and with 22 at a wrong
-/// number of arguments: by place the name, then the number of its arguments, then these from left to right.
+/// The number of the expression that a written expression stands for. It is refused with 12 at an unknown name and with
+/// 22 at a wrong number of arguments: by place the name, then the number of its arguments, then these from left to
+/// right.
 #[cycle(resolve)]
 pub fn resolve(
     alloc: Global,

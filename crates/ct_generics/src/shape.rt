@@ -1,5 +1,5 @@
-//! What is kept of expressions to tell whether the names of a block stand in them at the parameters: one shape for each
-//! shared expression.
+//! What is stored of expressions to decide whether the names of a block occur in them only with their own parameters: one shape
+//! for each shared expression.
 ghost use Rattle.std.specs.Prelude.{◌≡◌, ◌↔◌, ◌<◌, ◌≤◌, ◌^◌, ◌+◌, ◌&&◌, ℕ, List, length, Some, slice_get, IfOk, IfErr, IsTrue};
 ghost use Rattle.ct_generics.specs.declared.nodes.Node.{Node};
 ghost use Rattle.ct_generics.specs.declared.nodes.Node.TheVariants.{Param};

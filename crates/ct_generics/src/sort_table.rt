@@ -35,7 +35,7 @@ impl SortTable {
         }
     }
 
-    /// Lets the lengths of texts be counted anew: to be called whenever sorts or generics were declared or taken back.
+    /// Discards the lengths of texts; to be called whenever sorts or generics were declared or removed.
     pub fn forget_counts(&mut self)
         ensures expressions { self.new.expressions ≡ self.old.expressions }
         ensures sorts { self.new.sorts ≡ self.old.sorts }
@@ -44,7 +44,7 @@ impl SortTable {
         self.counts.truncate(0);
     }
 
-    /// Takes back all but the first sorts and the first expressions. The lengths of texts are to be counted anew.
+    /// Removes all sorts and all expressions except the first ones. The lengths of texts are to be counted anew.
     pub fn cut_to(&mut self, sorts: usize, expressions: usize)
         ensures first { (es : List Expression) → AreSorts self.old es
             → ((i : ℕ) (id : ExprId) → slice_get self.old.sorts i ≡ Some id → i < sorts → id.0 < expressions)

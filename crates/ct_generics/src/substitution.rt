@@ -8,8 +8,8 @@ use crate::error::GenericError;
 use crate::nodes::{ExprId, Expressions, Node};
 use std::alloc::Global;
 
-/// The numbers, among these expressions, of all expressions of the template with the arguments in place of the
-/// parameters. A parameter for which there is no argument stays. The only error is `NoMemory`.
+/// The numbers of all expressions of the template, among these expressions, with arguments for parameters. A parameter
+/// for which there is no argument stays. The only error is `NoMemory`.
 pub fn substitute(
     alloc: Global,
     target: &mut Expressions,

@@ -1,5 +1,5 @@
-//! What the graph of expressions tells of them, what adding sorts keeps, and which expressions are over their parameters:
-//! theorems for crates above.
+//! Theorems for crates above: what the graph of expressions says about them, what adding sorts preserves, and which expressions
+//! are over their parameters.
 ghost use Rattle.std.specs.Prelude.{◌≡◌, ℕ, List, length, ◌++◌, Ok, Some, option_map, slice_get};
 ghost use Rattle.std.specs.List.{AllZip};
 ghost use Rattle.ct_generics.specs.declared.decl.SortDecl.{SortDecl};
@@ -28,8 +28,8 @@ ghost use Rattle.ct_generics.specs.Synonyms.{with_synonym};
 ghost use Rattle.ct_generics.specs.Text.{text_length};
 ghost use Rattle.ct_generics.specs.WellFormed.{AreBlockParametersBelow, AreExpressions, AreParametersBelow, HaveExpressions, IsWellFormed};
 
-/// The graph of what expressions reach is closed and tells whether each of them is well founded and whether one is
-/// mixed, where each vertex was made.
+/// Theorems on the graph of what expressions reach: if each vertex was made, the graph is closed and determines whether
+/// each expression is well founded and whether one is mixed.
 pub fn graphs()
     ensures tells { (heads : List Head) (nodes : List Node) (ids : List ExprId) (graph : List Vertex)
         (starts : List ℕ) (roots : List Expression)
@@ -37,14 +37,14 @@ pub fn graphs()
         → TellsOf heads graph starts roots }
 {}
 
-/// What adding sorts to a list of sorts keeps, and that what is added is determined.
+/// Theorems on adding sorts to a list of sorts: what is preserved, and that the result is determined.
 pub fn additions()
     ensures keeps { (heads : List Head) (es before after : List Expression) → Adds heads es before after → IsAddition heads es before after }
     ensures same { (heads : List Head) (es before after other : List Expression) → Adds heads es before after → Adds heads es before other → after ≡ other }
 {}
 
-/// Which expressions are over their parameters: what a written expression stands for, and what is added to sorts; that blocks
-/// and synonyms keep declarations well formed; and that expressions are as they were when more is declared.
+/// Theorems on expressions over their parameters: what a written expression stands for, and what is added to sorts;
+/// that blocks and synonyms keep declarations well formed; and that expressions stay the same when more is declared.
 pub fn expressions()
     ensures resolved { (d : Declared) (params : ℕ) (expr : SortExpr) (e : Expression) → IsWellFormed d → AreParametersBelow params expr → resolved d expr ≡ Ok e → IsExpression d.heads params e }
     ensures block { (d : Declared) (kind : Kind) (block : List SortDecl) (own : List Head) → IsWellFormed d → AreBlockParametersBelow block → heads_in d kind block ≡ Ok own → IsWellFormed (with_heads d own) }
@@ -58,8 +58,8 @@ pub fn expressions()
     ensures own { (heads : List Head) (h : ℕ) (head : Head) → slice_get heads h ≡ Some head → IsExpression heads head.params (at_own_parameters h head.params) }
 {}
 
-/// Where each sort and generic is well founded at its own parameters, each sort is; and what is well founded is so where more
-/// is declared.
+/// Theorems on well-founded sorts: each sort is well founded if each sort and generic is well founded at its own
+/// parameters, and remains so when more is declared.
 pub fn instances()
     ensures founded { (heads : List Head) → HaveExpressions heads
         → ((h : ℕ) (head : Head) → slice_get heads h ≡ Some head → IsFounded heads (at_own_parameters h head.params))
@@ -68,8 +68,8 @@ pub fn instances()
         → IsFounded (heads ++ more) e }
 {}
 
-/// What is stored of declarations and of sorts stands for one value, which is a function of it. It does nothing: a proof that
-/// needs this calls it.
+/// Theorems on stored declarations and sorts: each stored form stands for exactly one value. It does nothing: a proof
+/// that needs this calls it.
 pub fn denotations()
     ensures expression { (nodes : List Node) (id : ExprId) (e : Expression) → Stands nodes id.0 e → expression_at nodes id ≡ e }
     ensures declared { (g : Generics) (d : Declared) → AreDeclared g d → declared_of g ≡ d }

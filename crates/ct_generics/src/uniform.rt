@@ -1,4 +1,4 @@
-//! Whether the sorts and generics of a block stand in their fields at the parameters alone.
+//! Whether the sorts and generics of a block occur in their fields only with their own parameters.
 ghost use Rattle.std.specs.Prelude.{◌≡◌, ◌↔◌, List, Option, slice_get, IfOk, IfErr, IsTrue};
 ghost use Rattle.std.specs.List.{list_all};
 ghost use Rattle.ct_generics.specs.Declarations.{Head};

@@ -17,7 +17,8 @@ pub enum NamedCtor {
     Generic(GenId, u32),
 }
 
-/// The constructor among those of the sort: it itself, or that of an instance of its generic; none where it is of another sort.
+/// The constructor as one of the sort: itself, or that of an instance of its generic; none if it belongs to another
+/// sort.
 pub fn ctor_among(sig: &Signature, ctor: NamedCtor, sort: SortId) -> Option<CtorId>
     requires ctor { IsNamedCtor sig.now ctor }
     requires sort { IsSort sig.now sort }
@@ -50,8 +51,8 @@ fn instance_ctor(sig: &Signature, g: GenId, index: u32, sort: SortId) -> Option<
     Some(sig.ctors(sort)[index as usize])
 }
 
-/// The field of an instance, by the indices of its constructor and its place there; none where the sort is no instance of the
-/// generic.
+/// The field of an instance, by the indices of its constructor and of the field in it; none if the sort is not an
+/// instance of the generic.
 pub fn field_among(sig: &Signature, g: GenId, index: u32, place: u32, sort: SortId) -> Option<SelId>
     requires field { IsSymbol sig.now (GenSel g index place) }
     requires sort { IsSort sig.now sort }

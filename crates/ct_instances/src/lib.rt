@@ -1,5 +1,4 @@
-//! What names of generics stand for at the sorts beside them: constructors and fields of instances, and the sorts for which
-//! parameters stand.
+//! What the names of generics mean at given sorts: constructors and fields of instances, and the sorts of parameters.
 #![tactic(auto)]
 
 mod among;

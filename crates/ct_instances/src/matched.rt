@@ -10,9 +10,9 @@ use crate::matching::Matching;
 use ct_sorts::{GenId, Signature, SortId};
 use std::alloc::{AllocError, Global};
 
-/// The sorts for which the parameters of a generic stand where the first fields of its constructor stand beside these sorts, matched
-/// from left to right; none where a field does not fit, or a parameter was not matched. They are as many as the generic's parameters.
-/// The only error is out of memory.
+/// The sorts of the parameters of a generic, found by matching the first fields of its constructor with these sorts
+/// from left to right; none if a field does not fit, or a parameter was not matched. They are as many as the generic's
+/// parameters. The only error is out of memory.
 pub fn matched_with(
     alloc: Global,
     sig: &Signature,

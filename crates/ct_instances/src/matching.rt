@@ -50,8 +50,8 @@ impl Matching {
         })
     }
 
-    /// Whether the sort of the next field fits the sort of its argument: parameters stand for what they were matched with first.
-    /// The only error is out of memory.
+    /// Whether the sort of the next field fits the sort of its argument: a parameter stands for what it was first
+    /// matched with. The only error is out of memory.
     pub fn fits_next(
         &mut self,
         alloc: Global,
@@ -76,7 +76,7 @@ impl Matching {
         }
     }
 
-    /// The sorts for which the parameters stand, where each was matched. The only error is out of memory.
+    /// The sorts for which the parameters stand, if each was matched. The only error is out of memory.
     pub fn sorts(&self, alloc: Global) -> Result<Option<Vec<SortId>>, AllocError>
         ensures sorts { (d : Declarations) → IfOk result (λ found. MatchOption found (sorts_for (assignment_of d self.now) ≡ None)
             (λ sorts. sorts_for (assignment_of d self.now) ≡ Some (map (origin_of d) sorts.items))) }

@@ -1,4 +1,4 @@
-//! The trait of desks, which give the bytes of files.
+//! The trait of desks, which provide the bytes of files.
 
 ghost use Rattle.std.specs.Prelude.{◌≡◌, ◌≢◌, ◌≤◌, ℕ, List, Option, length, OnOk, OnErr, IfOk, IfSome};
 ghost use Rattle.ct_io.specs.Bytes.{remaining, ReadsBytes};
@@ -39,7 +39,7 @@ pub trait Desk {
     /// How often the outside has failed.
     ghost faults: { Self → ℕ };
 
-    /// Puts what is held under the name into the slot, in place of what was left there.
+    /// Puts what the desk holds under the name into the slot, replacing what was left there.
     fn open(&mut self, slot: Slot, name: &str) -> Result<(), DeskError>
         ensures opened { OnOk result (left self.new slot ≡ held self.old name.now) }
         ensures refused { OnErr result (left self.new slot ≡ left self.old slot) }
@@ -47,8 +47,8 @@ pub trait Desk {
         ensures names { (n : List ℕ) → held self.new n ≡ held self.old n }
         ensures cause { HasCause DeskError.Fault (faults self.old) (faults self.new) result };
 
-    /// Moves the next bytes that are left in the slot into the start of `buf` and says how many:
-    /// none only where `buf` is empty or nothing is left.
+    /// Moves the next bytes of the slot to the start of `buf` and returns how many: none only if `buf` is empty or
+    /// nothing is left.
     fn read(&mut self, slot: Slot, buf: &mut [u8]) -> Result<usize, DeskError>
         ensures bound { IfOk result (λ n. n ≤ length buf.old) }
         ensures bytes { IfOk result (λ n. IfSome (left self.old slot) (λ bytes. ReadsBytes bytes n buf.old buf.new)) }

@@ -1,4 +1,4 @@
-//! Desks and sinks in memory, two that fail where they are asked to and two that never fail.
+//! Desks and sinks in memory: two that fail on request, and two that never fail.
 
 mod calls;
 mod desk;

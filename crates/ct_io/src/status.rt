@@ -1,4 +1,4 @@
-//! The status with which a run ends, and its code.
+//! The status with which a run ends, and its exit code.
 
 ghost use Rattle.std.specs.Prelude.{◌≡◌};
 ghost use Rattle.ct_io.specs.Status.{code_of};

@@ -1,4 +1,4 @@
-//! The store of clauses that the theory gave.
+//! The store of theory lemmas.
 ghost use Rattle.std.specs.Prelude.{◌≡◌, ◌<◌, ◌≤◌, [], All, length, drop, IfOk, OnOk, OnErr};
 ghost use Rattle.ct_sorts.specs.Declarations.{Declarations, start};
 ghost use Rattle.ct_sorts.specs.Grown.{Extends};
@@ -79,8 +79,9 @@ impl Kept {
         Ok(Kept { table, lemmas })
     }
 
-    /// Takes the clauses that the theory gave after so many first lines of the derivation, in order, up to the first for which it
-    /// holds 4,096 or for whose terms its table has no room; nothing of that one stays. Where memory runs out nothing has changed.
+    /// Takes the theory lemmas after the first `first` lines of the derivation, in order, up to the first one for which
+    /// the store has 4,096 already, or its table has no room for the terms; nothing of that one stays. Where memory
+    /// runs out nothing has changed.
     pub fn take(
         &mut self,
         alloc: Global,

@@ -1,4 +1,4 @@
-//! A clause that the theory gave, with its explanation.
+//! A theory lemma: a clause with its explanation.
 
 use ct_log::{Close, EqStep};
 use ct_sorts::Items;

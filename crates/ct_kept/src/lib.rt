@@ -1,4 +1,4 @@
-//! The clauses that the theory gave in earlier checks, kept for later ones.
+//! A store of theory lemmas from earlier checks, for use in later ones.
 #![tactic(auto)]
 
 mod error;

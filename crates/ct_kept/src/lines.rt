@@ -1,4 +1,4 @@
-//! The lines of those clauses of a store that may be used in a derivation.
+//! The lines of those lemmas of a store that may be used in a derivation.
 ghost use Rattle.std.specs.Prelude.{◌≡◌, ◌↔◌, ◌≤◌, ◌*◌, [], ◌∷◌, ◌++◌, All, length, IfOk, OnOk, MatchOption};
 ghost use Rattle.ct_log.specs.Recorded.{AreJudges};
 ghost use Rattle.ct_restriction.specs.Renumbered.{IsEqualTerm, IsNumber};

@@ -1,4 +1,4 @@
-//! Lemmas moved into another table.
+//! Moves lemmas into another table.
 ghost use Rattle.std.specs.Prelude.{◌≡◌, All, IfOk, MatchOption};
 ghost use Rattle.ct_restriction.specs.Renamed.{number_in};
 ghost use Rattle.ct_restriction.specs.Renumbered.{IsKnown};

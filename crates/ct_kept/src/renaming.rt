@@ -1,4 +1,4 @@
-//! Lemmas over other numbers of their terms.
+//! Renumbers the terms of lemmas.
 ghost use Rattle.std.specs.Prelude.{◌≡◌, map, IfOk};
 ghost use Rattle.ct_restriction.specs.Renamed.{number_in};
 ghost use Rattle.ct_kept.specs.Lemmas.{renamed_literal, renamed_pair, renamed_hop, renamed_step, renamed_close, renamed_lemma};

@@ -1,4 +1,4 @@
-//! What a check leaves in a store.
+//! What the store takes from a check.
 ghost use Rattle.std.specs.Prelude.{◌≡◌, ◌<◌, ◌≤◌, ◌⊎◌, ◌++◌, All, length, map, take, drop, OnOk, IfOk, MatchBool};
 ghost use Rattle.std.specs.List.{flat_map};
 ghost use Rattle.ct_sorts.specs.Grown.{Begins};

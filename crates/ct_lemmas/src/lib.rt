@@ -1,2 +1,2 @@
-//! Lemmas on lists, options, truth values and numbers that proofs of several crates cite. There is no code here.
+//! Lemmas on lists, options, Booleans and numbers that proofs of several crates cite. There is no code here.
 #![tactic(auto)]

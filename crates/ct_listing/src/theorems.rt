@@ -1,4 +1,4 @@
-//! What holds of listable sorts and of their values. A theorem is the contract of a function that does nothing.
+//! Theorems about listable sorts and their values. Each is the contract of a function that does nothing.
 ghost use Rattle.std.specs.Prelude.{◌≡◌, true, ℕ, ◌<◌, ◌↔◌, List, All, Contains, length, map, Some, slice_get};
 ghost use Rattle.std.specs.List.{AllZip};
 ghost use Rattle.ct_sorts.specs.declared.ids.CtorId.{CtorId};
@@ -20,7 +20,7 @@ ghost use Rattle.ct_listing.specs.Listing.{built_of, choices, listed};
 use ct_sorts::structure;
 use ct_values::{agreement, well_sorted_values};
 
-/// The theorems on listable sorts, for whoever quantifies over their values. The function does nothing.
+/// Theorems on listable sorts, for statements about all of their values. The function does nothing.
 pub fn listed_values()
     // The listable sorts are those that are not uninterpreted and all of whose constructors have only fields of listable
     // sorts.

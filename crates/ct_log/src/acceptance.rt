@@ -90,8 +90,8 @@ pub fn accepted_at(
     )
 }
 
-/// Whether the line is accepted after the earlier ones, judged in room that is kept from line to line. Takes no memory. Its
-/// cost is the length of the line and of the clauses that it names, as that of `accepted_at`.
+/// Whether the line is accepted after the earlier ones, using working memory that is reused from line to line. Takes no
+/// memory. Its cost is the length of the line and of the clauses that it names, as that of `accepted_at`.
 pub fn is_accepted(
     sig: &Signature,
     sizes: &Sizes,

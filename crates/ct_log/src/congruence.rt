@@ -1,4 +1,4 @@
-//! Congruence: two terms with one head, and one earlier step for the equation of the arguments at each place.
+//! Congruence: two terms with one head, and for each index an earlier step with the equation of the arguments.
 ghost use Rattle.std.specs.Prelude.{◌≡◌, ◌↔◌, IsTrue};
 ghost use Rattle.ct_terms.specs.Children.{core_children};
 ghost use Rattle.ct_log.specs.Equations.{AreCongruentBy, GaveEach};

@@ -55,7 +55,7 @@ impl Derivation {
         }
     }
 
-    /// One more line at the end, which is accepted after the others. Its only error is out of memory, which changes nothing.
+    /// Appends a line that is accepted after the others. Its only error is out of memory, which changes nothing.
     pub fn push(&mut self, line: Line) -> Result<(), LogError>
         requires accepted { IsAccepted self.old.declarations self.old.rec.terms self.old.asserts (clauses_of self.old.rec.lines) line }
         ensures ok { OnOk result (self.new ≡ record self.old { rec = record self.old.rec { lines = self.old.rec.lines ++ line ∷ [] } }) }

@@ -1,4 +1,4 @@
-//! The clause that a term is built by one of the constructors of its sort.
+//! The clause that one of the constructors of its sort built a term.
 ghost use Rattle.std.specs.Prelude.{◌≡◌, ◌↔◌, ◌⊎◌, IsTrue};
 ghost use Rattle.std.specs.List.{AllZip};
 ghost use Rattle.ct_sorts.specs.declared.ids.Kind.{Kind};

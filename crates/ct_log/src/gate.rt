@@ -1,4 +1,4 @@
-//! The clauses of gates: what a Boolean term means, and what a choice is. One function a shape of term.
+//! The clauses of gates: what a Boolean term means, and what a choice is. There is one function for each shape of term.
 ghost use Rattle.std.specs.Prelude.{◌≡◌, ◌↔◌, ℕ, Bool, List, [], ◌∷◌, map, All, Some, true, slice_get, IsTrue};
 ghost use Rattle.ct_terms.specs.declared.ids.TermId.{TermId};
 ghost use Rattle.ct_terms.specs.declared.ids.Lit.{Lit};

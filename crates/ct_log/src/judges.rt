@@ -1,4 +1,4 @@
-//! What lines are judged over, for clauses alone.
+//! What lines are judged over, for clauses only.
 ghost use Rattle.std.specs.Prelude.{◌≡◌};
 ghost use Rattle.std.specs.Borrow.{ftrue};
 ghost use Rattle.std.specs.Coded.{codes};

@@ -1,4 +1,10 @@
-//! Derivations: lines with clauses, and when a line is accepted after those before it.
+//! Derivations: lines with clauses, and when a line is accepted after the lines before it.
+//!
+//! A design choice:
+//!
+//! **What a line may rest on.** A line is judged by the table, the assertions and the clauses before it, so a longer table,
+//! more assertions and later lines do not affect it. Every equality step of a theory line must be right, even if nothing rests
+//! on it.
 #![tactic(auto)]
 
 mod acceptance;

@@ -1,4 +1,4 @@
-//! Looks at terms by their numbers, and at the equations of earlier steps. A number that is not there has nothing.
+//! Looks up terms by their numbers, and the equations of earlier steps. For a number that does not exist there is nothing.
 ghost use Rattle.std.specs.Prelude.{◌≡◌, ◌↔◌, Some, slice_get, IsTrue};
 ghost use Rattle.ct_sorts.specs.declared.ids.CtorId.{CtorId};
 ghost use Rattle.ct_sorts.specs.declared.ids.SelId.{SelId};

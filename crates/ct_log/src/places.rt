@@ -1,4 +1,4 @@
-//! Where assertions stand, as far as they were gone over.
+//! The places of assertions, as far as they were visited.
 ghost use Rattle.std.specs.Prelude.{◌≡◌, ◌<◌, ◌+◌, ◌↔◌, Contains, Some, IsTrue, slice_get};
 ghost use Rattle.std.specs.Bool.{OnTrue};
 

@@ -1,4 +1,4 @@
-//! The equality steps: which equation each gives after those before it, one function a rule.
+//! The equality steps: which equation each gives after those before it, with one function for each rule.
 ghost use Rattle.std.specs.Prelude.{◌≡◌, ◌<◌, ◌↔◌, ◌⊎◌, true, false, length, Some, Contains, IsTrue};
 ghost use Rattle.std.specs.List.{AllZip};
 ghost use Rattle.ct_card.specs.Sizes.{AreSizes};

@@ -1,4 +1,4 @@
-//! What follows from the definitions alone. A theorem is the contract of a function that does nothing.
+//! Theorems about the definitions alone. Each is the contract of a function that does nothing.
 ghost use Rattle.std.specs.Prelude.{◌⊎◌, ◌++◌, List, map};
 ghost use Rattle.ct_sorts.specs.Declarations.{Declarations};
 ghost use Rattle.ct_terms.specs.declared.ids.TermId.{TermId};
@@ -18,7 +18,7 @@ ghost use Rattle.ct_log.specs.Closing.{IsCycleBy};
 
 use ct_terms::{one_lasting_sort, propagation_is_sound};
 
-/// The theorem that acceptance lasts, for whoever adds to a record. It does nothing: a proof that needs it calls it.
+/// The theorem that acceptance lasts when a record grows. It does nothing: a proof that needs it calls it.
 ///
 /// A line stays accepted over a longer table, with more assertions, and after more earlier lines.
 pub fn lasting_acceptance()

@@ -39,7 +39,7 @@ pub fn parts_of(expr: &Sexpr) -> Option<&[Sexpr]>
     expr.as_list()
 }
 
-/// The first of the expressions, and those after it, where there is one.
+/// The first of the expressions, and the rest, if there is one.
 pub fn first_of(items: &[Sexpr]) -> Option<(&Sexpr, &[Sexpr])>
     ensures value { first_with_rest (expressions_of items.now) ≡ option_map (λ parts. (expression_of parts.0.now, expressions_of parts.1.now)) result }
 {
@@ -78,7 +78,7 @@ pub(crate) fn three_of(items: &[Sexpr]) -> Option<(&Sexpr, &Sexpr, &Sexpr)>
     Some((first, second, third))
 }
 
-/// What stands in a list after this word, with which it begins.
+/// What follows this word in a list that begins with it.
 pub fn parts_after<'a>(text: &[u8], expr: &'a Sexpr) -> Option<&'a [Sexpr]>
     ensures value { parts_after text.now (expression_of expr.now) ≡ option_map (λ items. expressions_of items.now) result }
 {
@@ -136,7 +136,7 @@ pub(crate) fn number_in(expr: &Sexpr) -> Option<u64>
     }
 }
 
-/// The term with this number; a number that is too great for a term stands for the greatest.
+/// The term with this number; a number that is too great for a term becomes the greatest one.
 pub fn term_numbered(n: u64) -> TermId
     ensures value { result ≡ term_numbered n }
 {

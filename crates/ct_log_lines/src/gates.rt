@@ -90,7 +90,7 @@ pub fn has_term(gate: Gate) -> bool
     }
 }
 
-/// Whether the gate is of an argument of its term, at a place.
+/// Whether the gate is about an argument of its term, given by its index.
 pub fn has_place(gate: Gate) -> bool
     ensures value { result ≡ has_place gate }
 {

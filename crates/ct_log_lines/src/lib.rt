@@ -1,5 +1,10 @@
-//! Items of derivations, as they are read from expressions one by one: term lines, lines with their rules, and the first
-//! and the last item.
+//! Parses the items of derivations one by one: term lines, lines with their rules, and the first and the last item.
+//!
+//! A design choice:
+//!
+//! **Words of derivations.** `ct_log_lines` compares the word of an item with the words of its rules, each next to the code
+//! that reads it, and does not use the table of `ct_words`: the contract refuses a missing rule. No clause says that the table
+//! has the same words.
 #![tactic(auto)]
 
 mod closing;

@@ -123,7 +123,7 @@ fn line_after_clause(
     }
 }
 
-/// The line with this number that the expression is; nothing where it is none. Its only error is out of memory.
+/// The line with this number that the expression is, or nothing. Its only error is out of memory.
 pub fn line_in(alloc: Global, n: u64, expr: &Sexpr) -> Result<Option<Line>, AllocError>
     ensures ok { IfOk result (λ line. line ≡ line_in n (expression_of expr.now)) }
 {
@@ -136,7 +136,7 @@ pub fn line_in(alloc: Global, n: u64, expr: &Sexpr) -> Result<Option<Line>, Allo
     }
 }
 
-/// Whether the expression ends a derivation of so many lines.
+/// Whether the expression ends a derivation of this many lines.
 pub fn is_end(n: u64, expr: &Sexpr) -> bool
     ensures value { result ≡ is_end n (expression_of expr.now) }
 {
@@ -156,7 +156,7 @@ fn not_zero(n: u64) -> Option<u64>
     Some(n)
 }
 
-/// The number of the item that a derivation begins with; nothing where the expression is no such item, or the number is 0.
+/// The number in the first item of a derivation; nothing if the expression is no such item, or the number is 0.
 pub fn header_in(expr: &Sexpr) -> Option<u64>
     ensures value { result ≡ header_in (expression_of expr.now) }
 {

@@ -243,8 +243,8 @@ fn line_after_kind(
     }
 }
 
-/// The term line with this number that the expression is; nothing where it is none, or a table has no term with the number.
-/// Its only error is out of memory.
+/// The term line with this number that the expression is; nothing if it is none, or no table has a term with the
+/// number. Its only error is out of memory.
 pub fn term_line(alloc: Global, n: u64, expr: &Sexpr) -> Result<Option<TermLine>, AllocError>
     ensures ok { IfOk result (λ line. line ≡ term_line n (expression_of expr.now)) }
 {

@@ -1,4 +1,4 @@
-//! The term of a term line, over what its name stands for.
+//! The term of a term line, from what its name stands for.
 ghost use Rattle.std.specs.Prelude.{◌≡◌, map, Some, IfOk};
 ghost use Rattle.ct_log_lines.specs.Forms.{term_numbered};
 ghost use Rattle.ct_log_text.specs.Cores.{one_term, two_terms, three_terms, con_of, apply_of, sel_of, test_of, eq_of, iff_of, not_of, ite_of, core_with};

@@ -1,4 +1,10 @@
-//! Derivations as text: records that are read from an expression, and written.
+//! Derivations as text: parsing and printing of records.
+//!
+//! A design choice:
+//!
+//! **Numbers in texts.** A number below 2^64 has the form of any number; whether it is the number of a term is checked
+//! afterwards. In memory a term number has 32 bits, so a greater number becomes the greatest one, which no table reaches. The
+//! text of a derivation ends with its closing parenthesis: the code that prints answers ends the line.
 #![tactic(auto)]
 
 mod built;

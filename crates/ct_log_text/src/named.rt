@@ -1,4 +1,4 @@
-//! What the name of a term line stands for, beside the sorts of its terms.
+//! What the name of a term line stands for, given the sorts of its terms.
 
 ghost use Rattle.std.specs.Prelude.{◌≡◌, ◌<◌, length, map, All, Some, IfOk, IfSome};
 ghost use Rattle.std.specs.Option.{option_and_then};

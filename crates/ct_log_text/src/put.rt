@@ -1,4 +1,4 @@
-//! What is written of words, numbers and rows.
+//! Writes words, numbers and rows.
 ghost use Rattle.std.specs.Prelude.{◌≡◌, List, [], ◌∷◌, ◌++◌, decimal, OnOk, IfErr};
 ghost use Rattle.ct_sexpr.specs.Expression.{more, none, list, word};
 ghost use Rattle.ct_sexpr.specs.Written.{written, written_after};

@@ -1,4 +1,4 @@
-//! What is written of lines.
+//! Writes lines.
 ghost use Rattle.std.specs.Prelude.{◌≡◌, List, [], ◌∷◌, ◌++◌, OnOk};
 ghost use Rattle.ct_sexpr.specs.Expression.{more, none, list, word};
 ghost use Rattle.ct_sexpr.specs.Written.{written, written_after, written_items};

@@ -1,4 +1,4 @@
-//! What is written of term lines.
+//! Writes term lines.
 ghost use Rattle.std.specs.Prelude.{◌≡◌, [], ◌∷◌, ◌++◌, unwrap_or, slice_get, OnOk};
 ghost use Rattle.ct_sexpr.specs.Expression.{more, none};
 ghost use Rattle.ct_sexpr.specs.Written.{written, written_after};

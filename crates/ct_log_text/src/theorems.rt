@@ -1,4 +1,4 @@
-//! What holds of texts of derivations. A theorem is the contract of a function that does nothing.
+//! Theorems about texts of derivations. Each is the contract of a function that does nothing.
 ghost use Rattle.std.specs.Prelude.{◌≡◌, ◌≤◌, ℕ, true, [], ◌∷◌, Ok, Some};
 ghost use Rattle.std.specs.List.{list_all};
 ghost use Rattle.ct_sexpr.specs.Expression.{Expression, Expressions, list, nesting};
@@ -16,8 +16,7 @@ use ct_sexpr::{spaced_texts, written_texts};
 use ct_sorts::{naming, shapes};
 use ct_terms::one_lasting_sort;
 
-/// The theorems on derivations that are written and read back, for whoever proves something about
-/// them. The function does nothing.
+/// Theorems on derivations that are written and read back. The function does nothing.
 ///
 /// What is written of a record that fits the declarations, with the number of a check, is read as
 /// that record and that number. The numbers of its terms are those of terms of its table, its
@@ -41,8 +40,7 @@ pub fn reads_back()
     one_lasting_sort();
 }
 
-/// The theorem on the text of a derivation and a reader, for whoever proves something about texts.
-/// The function does nothing.
+/// Theorems on how a reader reads the text of a derivation. The function does nothing.
 ///
 /// The text with one item a line, of a readable list that nests within the limit, is read as the
 /// list, with names quoted only where they need to be, and nothing is left. So the text of a record

@@ -1,5 +1,4 @@
-//! What holds of the meaning of formulas, and of their core terms. A theorem is the contract of a
-//! function that does nothing.
+//! Theorems about the meaning of formulas and of their core terms. Each is the contract of a function that does nothing.
 ghost use Rattle.std.specs.Prelude.{◌≡◌, ◌↔◌, ◌++◌, true, List, [], map, All};
 ghost use Rattle.std.specs.List.{AllZip};
 ghost use Rattle.ct_sorts.specs.declared.ids.SortId.{SortId};
@@ -35,8 +34,7 @@ use ct_values::{
     agreement, boolean_values, fitting_graphs, representative_nodes, well_sorted_values,
 };
 
-/// The theorems on meanings, for whoever speaks of what formulas and their core terms mean. The
-/// function does nothing.
+/// Theorems on the meaning of formulas and of their core terms. The function does nothing.
 pub fn meanings()
     // The value of a term of a table is that of its tree: it does not depend on the table.
     ensures tree { (d : Declarations) (i : Interp) (terms : Terms) (t : TermId)

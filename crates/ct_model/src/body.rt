@@ -1,4 +1,4 @@
-//! What a table gives, as a choice by its rows.
+//! The body of a function as a choice by the rows of its table.
 ghost use Rattle.std.specs.Prelude.{◌≡◌, ℕ, ◌<◌, List, ◌∷◌, ◌++◌, length, All, OnOk};
 ghost use Rattle.std.specs.List.{AllZip};
 ghost use Rattle.ct_values.specs.Fitting.{FitsGraph};

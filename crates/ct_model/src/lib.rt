@@ -1,4 +1,4 @@
-//! Texts of models: tables of functions and of wrongly applied selectors, whole models, and values beside terms.
+//! Texts of models: tables of functions and of wrongly applied selectors, whole models, and terms with their values.
 #![tactic(auto)]
 
 mod body;

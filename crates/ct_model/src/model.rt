@@ -14,10 +14,10 @@ use ct_eval::Interp;
 use ct_sorts::{FunId, SelId, Signature};
 use std::alloc::Global;
 
-/// The model, as `get-model` answers it (SMT-LIB 2.7, section 4.2.6): the line `(`, a line for each declared function in order of
-/// declaration, as `table_text` gives it, a line `(@off s ((@x0 S)) T body)` for each selector of a sort with two or more
-/// constructors, in order, with what the selector gives where it is wrongly applied, and `)`. The last line is not ended. The only
-/// error is out of memory.
+/// The model, as `get-model` answers it (SMT-LIB 2.7, section 4.2.6): the line `(`; a line for each declared function
+/// in order of declaration, as `table_text` gives it; a line `(@off s ((@x0 S)) T body)` for each selector of a sort
+/// with two or more constructors, in order, with the results of its wrong applications; and `)`. The last line is not
+/// ended. The only error is out of memory.
 pub fn model_text(alloc: Global, sig: &Signature, interp: &Interp) -> Result<Vec<u8>, ModelError>
     requires proper { IsProper sig.now interp.now }
     ensures text { IfOk result (λ text. IsModelText sig.now interp.now text.items) }

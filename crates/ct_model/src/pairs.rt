@@ -1,4 +1,4 @@
-//! Terms beside their values.
+//! Terms with their values.
 ghost use Rattle.std.specs.Prelude.{◌≡◌, ℕ, List, ◌++◌, length, All, OnOk, IfOk};
 ghost use Rattle.ct_values.specs.Fitting.{FitsGraph};
 ghost use Rattle.ct_model.specs.Within.{IsNode};
@@ -11,9 +11,9 @@ use ct_sorts::Signature;
 use ct_values::{Graph, NodeId};
 use std::alloc::Global;
 
-/// Each term beside its value, as `get-value` answers (SMT-LIB 2.7, section 4.2.6): `((t v) ..)`. The terms are written as
-/// `sexpr_text` of `ct_sexpr` writes expressions, and the values as `value_text` of `ct_values`. The node at an index has the value
-/// of the term there. The only error is out of memory.
+/// Each term with its value, as `get-value` answers (SMT-LIB 2.7, section 4.2.6): `((t v) ..)`. The terms are written
+/// as `sexpr_text` of `ct_sexpr` writes expressions, and the values as `value_text` of `ct_values`. The node at an
+/// index has the value of the term there. The only error is out of memory.
 pub fn value_pairs_text(
     alloc: Global,
     sig: &Signature,

@@ -1,4 +1,4 @@
-//! The texts of single tables: of a function, and of a selector where it is wrongly applied.
+//! The texts of single tables: of a function, and of a selector for wrong applications.
 ghost use Rattle.std.specs.Prelude.{◌≡◌, ℕ, ◌<◌, List, ◌++◌, length, slice_get, Some, All, OnOk, IfOk};
 ghost use Rattle.ct_sorts.specs.Declarations.{IsSort, IsFunction, IsSelector};
 ghost use Rattle.ct_eval.specs.Interpretation.{IsProper};

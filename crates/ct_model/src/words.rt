@@ -1,4 +1,4 @@
-//! What texts of models are made of, each written after what is there: names, parameters and values.
+//! The parts of texts of models, each appended to the text: names, parameters and values.
 ghost use Rattle.std.specs.Prelude.{◌≡◌, ℕ, ◌<◌, List, ◌++◌, length, All, OnOk};
 ghost use Rattle.ct_sorts.specs.Declarations.{IsSort};
 ghost use Rattle.ct_sexpr.specs.Written.{written_name};

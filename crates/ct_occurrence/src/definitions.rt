@@ -1,4 +1,4 @@
-//! What is worked out of the definitions that a formula needs: which parameters occur, and the notes on the body.
+//! What is computed for the definitions that a formula needs: which parameters occur, and the notes on the body.
 ghost use Rattle.std.specs.Prelude.{◌≡◌, ◌<◌, List, length, map, Some, None, slice_get, nat_eq, if◌then◌else◌, OnOk};
 ghost use Rattle.std.specs.Bool.{OnTrue, OnFalse};
 ghost use Rattle.ct_sorts.specs.declared.ids.DefId.{DefId};
@@ -29,7 +29,7 @@ pub struct Worked {
 /// What is worked out, by the numbers of definitions.
 pub type Definitions = IndexMap<u32, Worked>;
 
-/// Nothing is worked out.
+/// No notes on definitions.
 pub fn no_definitions(alloc: Global) -> Definitions
     ensures right { (d : Declarations) (bodies : List Formula) → AreRight d bodies (worked_in result) }
 {
@@ -69,7 +69,7 @@ pub fn notes_at(definitions: &Definitions, k: DefId) -> &[Notes]
     }
 }
 
-/// How deep a definition's body nests, and a call of it with that, or 0 where it is not worked out. It steers when a call is
+/// How deep the body of a definition and a call of it nest, or 0 if there are no notes on it. It steers when a call is
 /// put off, and says nothing of what is compiled.
 pub fn height_at(definitions: &Definitions, k: DefId) -> usize {
     match definitions.get(&k.0) {

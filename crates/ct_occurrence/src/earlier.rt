@@ -43,7 +43,7 @@ impl Earlier {
         }
     }
 
-    /// One more case, of this constructor. An error changes nothing.
+    /// Adds a case with this constructor. An error changes nothing.
     pub fn push(&mut self, c: CtorId) -> Result<(), AllocError>
         ensures pushed { OnOk result (self.new ≡ self.old ++ c ∷ []) }
         ensures unchanged { OnErr result (self.new ≡ self.old) }

@@ -1,5 +1,5 @@
-//! Which case of a `match` surely fits: each other constructor of its sort has a case before it. How many variables a case
-//! binds.
+//! Which case of a `match` is certain to match: each other constructor of its sort has an earlier case. How many variables a
+//! case binds.
 ghost use Rattle.std.specs.Prelude.{◌≡◌, ◌<◌, ◌||◌, ◌==◌, length, reverse};
 ghost use Rattle.std.specs.List.{list_all};
 ghost use Rattle.ct_formulas.specs.Compiled.{surely_fits, is_among};

@@ -1,4 +1,4 @@
-//! How deep a formula nests. It steers when a call of a definition is put off, and says nothing of what is compiled.
+//! How deep a formula nests. It determines when a call of a definition is postponed, and says nothing about what is compiled.
 
 use crate::cases::body_of;
 use crate::plain::operands;

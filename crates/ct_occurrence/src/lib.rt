@@ -1,4 +1,4 @@
-//! Occurrence: which variables of a formula occur in its core term, worked out once for all binders in it, and once a
+//! Occurrence: which variables of a formula occur in its core term, computed once for all of its binders and once for each
 //! definition; and which definitions a formula can reach.
 #![tactic(auto)]
 

@@ -7,8 +7,8 @@ use crate::fitting::surely_fits;
 use ct_formulas::Pattern;
 use ct_sorts::{CtorId, Signature};
 
-/// The constructor that is tested before a case, after cases of the constructors `earlier`: none where
-/// the case surely fits or is the last.
+/// The constructor that is tested before a case, after cases of the constructors `earlier`: none if the case is certain
+/// to match or is the last.
 pub fn tested(sig: &Signature, earlier: &Earlier, pattern: Pattern, last: bool) -> Option<CtorId>
     requires declared { IsPatternDeclared sig.now pattern }
     ensures value { result ≡ tested_by sig.now (reverse earlier.now) pattern last }

@@ -1,4 +1,4 @@
-//! The definitions that a formula needs are worked out: those that it names, and those that their bodies name.
+//! Computes the notes on the definitions that a formula needs: those that it names, and those that their bodies name.
 ghost use Rattle.std.specs.Prelude.{◌≤◌, length, map, Contains, OnOk};
 ghost use Rattle.ct_sorts.specs.declared.ids.DefId.{DefId};
 ghost use Rattle.ct_formulas.specs.Formula.{MentionsBelow};

@@ -1,4 +1,4 @@
-//! What is worked out once a formula, for all binders in it: which variables occur.
+//! What is computed once for a formula and all of its binders: which variables occur.
 ghost use Rattle.std.specs.Prelude.{◌≡◌, [], ◌∷◌};
 ghost use Rattle.ct_occurrence.specs.Noted.{bound_of, under_of, inner_of};
 

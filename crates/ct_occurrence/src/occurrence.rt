@@ -1,4 +1,4 @@
-//! Which variables occur in the core term of a formula: what is bound to the others makes no term.
+//! Which variables occur in the core term of a formula: what is bound to other variables makes no term.
 ghost use Rattle.std.specs.Prelude.{◌≡◌, ℕ, ◌+◌, ◌++◌, Bool, true, false, ◌&&◌, ◌||◌, ◌==◌, [], replicate, IfOk, OnOk};
 ghost use Rattle.ct_sorts.specs.declared.ids.DefId.{DefId};
 ghost use Rattle.ct_formulas.specs.TreeFormula.{formula_of, formulas_of_trees};

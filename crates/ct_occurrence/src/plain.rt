@@ -1,4 +1,4 @@
-//! Operators: the formulas under one.
+//! The formulas under an operator.
 ghost use Rattle.std.specs.Prelude.{◌≡◌, true, false, IfSome, IfNone};
 ghost use Rattle.ct_formulas.specs.TreeFormula.{formula_of, formulas_of_trees};
 ghost use Rattle.ct_occurrence.specs.Plain.{is_plain, formulas_under};

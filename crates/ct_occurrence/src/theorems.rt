@@ -1,5 +1,4 @@
-//! What holds of the definitions that a formula can reach. A theorem is the contract of a function
-//! that does nothing.
+//! Theorems about the definitions that a formula can reach. Each is the contract of a function that does nothing.
 ghost use Rattle.std.specs.Prelude.{◌≡◌, Bool, true, List, Some, slice_get};
 ghost use Rattle.ct_sorts.specs.declared.ids.DefId.{DefId};
 ghost use Rattle.ct_sorts.specs.Declarations.{Declarations};

@@ -1,4 +1,5 @@
-//! One definition is worked out, after those that its body names: without recursion, whatever the chain of definitions.
+//! Computes the notes on one definition after those on the definitions that its body names, without recursion, however long the
+//! chain of definitions is.
 //!
 //! The definitions that wait for another stand on a stack, each with the names in its body that are left to look at. Each
 //! definition names those with smaller numbers alone, so none waits twice. Each body is gone over three times, whatever

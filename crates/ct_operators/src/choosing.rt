@@ -1,4 +1,4 @@
-//! Choices between several terms, each after its condition, from the last on.
+//! Choices between several terms, each with its condition, from the last one on.
 ghost use Rattle.std.specs.Prelude.{◌<◌, length, List, IfOk, IsErrOf};
 ghost use Rattle.std.specs.List.{AllByRecursion};
 ghost use Rattle.ct_sorts.specs.declared.ids.SortId.{SortId};

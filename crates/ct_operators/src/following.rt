@@ -1,5 +1,5 @@
-//! Operators over several terms while the terms are made: what is made after each of them, so that terms
-//! stand in the order of the core term, each after the terms under it.
+//! Operators over several terms while the terms are made: what is made after each of them, so that terms are in the order of
+//! the core term, each after the terms under it.
 ghost use Rattle.std.specs.Prelude.{Bool, Option};
 ghost use Rattle.ct_terms.specs.declared.ids.TermId.{TermId};
 ghost use Rattle.ct_operators.specs.Following.{MayFollow, FollowGives};

@@ -1,4 +1,4 @@
-//! Operators and choices: their core terms over terms of a table, and what a table is while terms are made.
+//! Operators and choices: their core terms over terms of a table, and the state of the table while terms are made.
 #![tactic(auto)]
 
 mod chains;

@@ -1,4 +1,4 @@
-//! One core term: it is made where the table does not have it.
+//! Makes one core term if the table does not have it.
 ghost use Rattle.std.specs.Prelude.{length, List, Contains, IfOk, IsErrOf};
 ghost use Rattle.ct_sorts.specs.declared.ids.SortId.{SortId};
 ghost use Rattle.ct_terms.specs.Terms.{HasArgumentsBelow};

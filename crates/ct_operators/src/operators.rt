@@ -1,4 +1,4 @@
-//! Operators over several terms, brought to the kinds of core terms.
+//! Operators over several terms, reduced to the kinds of core terms.
 ghost use Rattle.std.specs.Prelude.{◌≡◌, ◌<◌, length, map, List, [], ◌∷◌, ◌++◌, Contains, IfOk, IsErrOf};
 ghost use Rattle.std.specs.List.{AllByRecursion, fold};
 ghost use Rattle.ct_sorts.specs.declared.ids.SortId.{SortId};

@@ -1,4 +1,4 @@
-//! The theorems on terms and formulas that compiling stands on.
+//! The theorems on terms and formulas on which compilation rests.
 ghost use Rattle.ct_operators.specs.Theorems.{Theorems};
 
 use ct_formulas::formulas;

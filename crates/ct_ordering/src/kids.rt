@@ -1,4 +1,4 @@
-//! The kids of a point, in the lists that give the graph.
+//! The children of a point, in the lists that represent the graph.
 ghost use Rattle.std.specs.Prelude.{◌≡◌, ◌+◌, ◌-◌, ◌<◌, ◌≤◌, length, slice_get};
 ghost use Rattle.std.specs.List.{slice_range};
 ghost use Rattle.ct_ordering.specs.Graph.{graph, ArePoints};

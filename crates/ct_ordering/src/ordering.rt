@@ -23,7 +23,7 @@ pub enum Ordered {
     Cycle(Vec<Hop>),
 }
 
-/// The points of the graph, each once and after its kids, or a cycle where one stands against it. A point with an edge to
+/// The points of the graph, each once and after its children, or a cycle that prevents this. A point with an edge to
 /// itself is a cycle of one hop.
 ///
 /// The points are the numbers from 0, one fewer than `starts` has entries, and the kids of point i are

@@ -1,4 +1,4 @@
-//! The lists that give the points of a graph and their kids.
+//! The lists that represent the points of a graph and their children.
 ghost use Rattle.std.specs.Prelude.{◌≡◌, ℕ, ◌+◌, ◌<◌, ◌≤◌, ◌↔◌, length, slice_index, All, IsTrue};
 ghost use Rattle.ct_ordering.specs.Graph.{ArePoints};
 

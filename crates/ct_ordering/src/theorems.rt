@@ -1,4 +1,4 @@
-//! What holds of orders and cycles. A theorem is the contract of a function that does nothing.
+//! The theorem about orders and cycles. It is the contract of a function that does nothing.
 ghost use Rattle.std.specs.Prelude.{ℕ, List};
 ghost use Rattle.ct_ordering.specs.declared.hop.Hop.{Hop};
 ghost use Rattle.ct_ordering.specs.Graph.{Graph};

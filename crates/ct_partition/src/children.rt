@@ -1,4 +1,4 @@
-//! The children of a point, in the lists that give the points.
+//! The children of a point, in the lists that represent the points.
 ghost use Rattle.std.specs.Prelude.{◌≡◌, ◌+◌, ◌<◌, ◌≤◌, length};
 ghost use Rattle.std.specs.List.{slice_range};
 ghost use Rattle.ct_partition.specs.Points.{points, ArePoints};

@@ -1,4 +1,4 @@
-//! What a round of refinement compares of a point, and the map from it to numbers.
+//! What a round of refinement compares of a point, and the map from that to numbers.
 ghost use Rattle.std.specs.Prelude.{◌≡◌, ℕ, ◌<◌, ◌⊎◌, length, Some, IfOk, All, map};
 ghost use Rattle.indexmap.specs.IndexMap.{get};
 ghost use Rattle.ct_partition.specs.declared.key.Key.{Key};

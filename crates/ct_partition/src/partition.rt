@@ -24,10 +24,9 @@ use crate::splitting::{Blocks, split};
 use crate::waiting::parents_of;
 use std::alloc::Global;
 
-/// For each point the number of its block in the coarsest stable partition: points are in one block
-/// exactly where they cannot be told apart by their labels and, one for one, by those of their
-/// children, the children of these, and so on. The number of a block is that of its least point. A
-/// point that is to be told from all others has a label of its own.
+/// For each point the number of its block in the coarsest stable partition: two points share a block exactly if they
+/// cannot be distinguished by their labels and, in order, by those of their children, the children of these, and so on.
+/// The number of a block is that of its least point. A point that is to be told from all others has a label of its own.
 ///
 /// Point i has the label `labels[i]` and the children `children[starts[i]..starts[i + 1]]`, in order
 /// (`are_points`). With n points that have e children in all, and no more than w each, the time is

@@ -1,4 +1,4 @@
-//! The lists that give labelled points with ordered children.
+//! The lists that represent labelled points with ordered children.
 ghost use Rattle.std.specs.Prelude.{◌≡◌, ℕ, ◌+◌, ◌<◌, ◌≤◌, ◌↔◌, length, slice_index, All, IsTrue};
 ghost use Rattle.ct_partition.specs.Points.{ArePoints};
 

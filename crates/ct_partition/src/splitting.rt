@@ -1,4 +1,4 @@
-//! Blocks that are split by groups of points.
+//! Splits blocks by groups of points.
 //!
 //! Where a block falls into groups of points and the rest of it, the largest of these parts keeps the number of the
 //! block, and each other part gets a new one. So a point that gets a new number is in a block of at most half the size,

@@ -1,4 +1,4 @@
-//! The points that wait to be looked at: those with a child whose block has a new number.
+//! The points that still have to be looked at: those with a child whose block has a new number.
 ghost use Rattle.std.specs.Prelude.{◌≡◌, ℕ, ◌<◌, ◌≤◌, length, IfOk, OnOk, All, IsTrue, ◌||◌, slice_index};
 ghost use Rattle.ct_partition.specs.Sets.{has};
 ghost use Rattle.ct_partition.specs.Parents.{in_row_of};

@@ -1,4 +1,4 @@
-//! Default values of sorts, which selectors that are never wrongly applied have as tables.
+//! Default values of sorts, which are the tables of selectors that are never wrongly applied.
 ghost use Rattle.std.specs.Prelude.{◌≡◌, slice_get, IfOk, OnOk};
 ghost use Rattle.ct_sorts.specs.Declarations.{Declarations, IsSort};
 ghost use Rattle.ct_sorts.specs.Grown.{Begins};

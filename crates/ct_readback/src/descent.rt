@@ -1,5 +1,6 @@
-//! The sorts of the nodes of a graph. Where sorts have arguments a name does not tell a sort: those of the nodes that the root reaches
-//! go from it down by the fields of constructors, and each other node is tried at one sort after another, by itself.
+//! The sorts of the nodes of a graph. With parametric sorts a name does not determine a sort. For nodes that the root reaches,
+//! sorts are passed down from the root by the fields of constructors; every other node is tried at one sort after another, by
+//! itself.
 ghost use Rattle.std.specs.Prelude.{◌≡◌, ◌<◌, ◌≤◌, ◌⊎◌, ◌∷◌, [], ℕ, length, map, slice_get, All, Some, IfOk, IfSome, OnOk, MatchOption};
 ghost use Rattle.std.specs.Bool.{OnTrue, OnFalse};
 ghost use Rattle.ct_sexpr.specs.View.{expressions_of};

@@ -1,4 +1,4 @@
-//! What stands at the top of a value: a constructor, or an element of an uninterpreted sort.
+//! The head of a value: a constructor, or an element of an uninterpreted sort.
 ghost use Rattle.std.specs.Prelude.{◌≡◌, option_and_then, option_map, codes, IfSome};
 ghost use Rattle.ct_sexpr.specs.View.{expression_of, expressions_of};
 ghost use Rattle.ct_sorts.specs.Declarations.{IsSort, IsConstructor};

@@ -1,4 +1,4 @@
-//! An item of a model: the table that it says, or its error.
+//! An item of a model: the table that it defines, or its error.
 ghost use Rattle.std.specs.Prelude.{◌≡◌, [], ◌∷◌, All, length, IfOk};
 ghost use Rattle.ct_sexpr.specs.Expression.{none, more};
 ghost use Rattle.ct_sexpr.specs.View.{expression_of, expressions_of};

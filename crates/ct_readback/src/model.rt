@@ -1,4 +1,4 @@
-//! Reading a model back: its items one after another, and the first that is refused.
+//! Parses a model: its items one after another, up to the first that is refused.
 ghost use Rattle.std.specs.Prelude.{◌≡◌, ℕ, ◌+◌, List, length, Ok, Err, Some, All, slice_get, IfOk, IsErrOf};
 ghost use Rattle.ct_sexpr.specs.Expression.{Expression};
 ghost use Rattle.ct_sorts.specs.Declarations.{IsSort};

@@ -1,4 +1,4 @@
-//! Graphs put after another graph: the nodes of datatypes after their children of datatypes, whatever their numbers were.
+//! Appends a graph to another graph: the nodes of datatypes after their children of datatypes, whatever their numbers were.
 ghost use Rattle.std.specs.Prelude.{◌≡◌, ◌↔◌, ◌<◌, ◌+◌, ◌^◌, ◌++◌, ℕ, List, length, All, Some, slice_get, option_map, IsTrue, IfOk, OnOk, MatchOption};
 ghost use Rattle.std.specs.List.{AllZip, filter};
 ghost use Rattle.ct_sorts.specs.Grown.{Begins};

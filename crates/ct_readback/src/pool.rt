@@ -1,4 +1,4 @@
-//! A graph that grows node by node, in which a node that is asked for again is found, so that what a model repeats is mostly one node
+//! A graph that grows node by node and finds a node that is asked for again, so that what a model repeats is usually one node
 //! (hash-consing; Filliâtre and Conchon 2006).
 ghost use Rattle.std.specs.Prelude.{◌≡◌, ◌<◌, ◌+◌, [], ◌++◌, Some, All, length, slice_get, IfOk, OnOk, OnErr, IfSome};
 ghost use Rattle.std.specs.Bool.{OnTrue};

@@ -1,4 +1,4 @@
-//! What holds of models that were printed. A theorem is the contract of a function that does nothing.
+//! The theorem about printed models. It is the contract of a function that does nothing.
 ghost use Rattle.std.specs.Prelude.{◌≡◌, ℕ, ◌≤◌, List, []};
 ghost use Rattle.ct_sorts.specs.Declarations.{Declarations};
 ghost use Rattle.ct_sorts.specs.Consistent.{IsConsistent};

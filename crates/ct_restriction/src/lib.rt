@@ -1,4 +1,4 @@
-//! A table of terms cut down to what some of its terms need.
+//! Restricts a table of terms to what some of its terms need.
 #![tactic(auto)]
 
 mod marking;

@@ -1,4 +1,4 @@
-//! Which terms of a table are subterms of some of its terms.
+//! Finds the terms of a table that are subterms of some of its terms.
 //!
 //! Terms have greater numbers than the terms under them: so one pass from the last number down marks them all.
 ghost use Rattle.std.specs.Prelude.{◌≡◌, ◌<◌, ◌≤◌, ◌⊎◌, All, Contains, length, IfOk};

@@ -1,4 +1,4 @@
-//! Terms over other numbers of the terms right under them.
+//! Renumbers the direct subterms of terms.
 ghost use Rattle.std.specs.Prelude.{◌≡◌, ◌<◌, All, length, map, IfOk};
 ghost use Rattle.ct_terms.specs.Children.{HasArgumentsBelow};
 ghost use Rattle.ct_restriction.specs.Renamed.{number_in, renamed};

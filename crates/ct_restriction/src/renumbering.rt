@@ -1,4 +1,4 @@
-//! Numbers in one table of the terms of another.
+//! The numbers in one table of the terms of another.
 //!
 //! Terms have greater numbers than the terms under them: so one pass from the first number up finds or makes them all.
 ghost use Rattle.std.specs.Prelude.{◌≡◌, ◌↔◌, ◌+◌, ◌<◌, ◌≤◌, ◌⊎◌, ◌∷◌, [], true, All, length, Some, IsTrue, IfOk, OnOk, IsErrOf};
@@ -54,9 +54,9 @@ impl Renumbering {
         Ok(made)
     }
 
-    /// Puts the subterms of the roots, which are terms of the first table, into the second, until that is full. Gives the
-    /// numbers of those that stand there. The time is linear in the first table. Its only error is out of memory, after which the
-    /// table may have terms more.
+    /// Copies the subterms of the roots, which are terms of the first table, into the second, until that is full. Gives
+    /// the numbers of those that stand there. The time is linear in the first table. Its only error is out of memory,
+    /// after which the table may have terms more.
     pub fn copying(
         alloc: Global,
         sig: &Signature,
@@ -92,7 +92,7 @@ impl Renumbering {
         Ok(made)
     }
 
-    /// The number of the term, or any where it is not known.
+    /// The number of the term; any number if it is not known.
     pub fn number(&self, t: TermId) -> TermId
         ensures value { result ≡ number_in self.now.numbers t }
     {

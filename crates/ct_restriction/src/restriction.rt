@@ -1,4 +1,4 @@
-//! A table cut down to what some terms need.
+//! Restricts a table to what some terms need.
 //!
 //! The subterms of the roots are marked (`marking.rt`), and copied from the first number up: so the terms under each have their
 //! new numbers before it. The time is linear in the table.
@@ -14,8 +14,8 @@ use ct_sorts::Signature;
 use ct_terms::{TermError, TermId, TermTable};
 use std::alloc::Global;
 
-/// A table of `true`, `false` and the subterms of the roots, which are terms of the given table, and the numbers of the roots in
-/// it. Its only error is out of memory.
+/// A table of `true`, `false` and the subterms of the roots, which are terms of the given table, with the numbers of
+/// the roots in it. Its only error is out of memory.
 pub fn restrict(
     alloc: Global,
     sig: &Signature,

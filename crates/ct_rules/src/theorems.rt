@@ -1,4 +1,4 @@
-//! What holds of derivations of equations. A theorem is the contract of a function that does nothing.
+//! Theorems about derivations of equations. Each is the contract of a function that does nothing.
 ghost use Rattle.std.specs.Prelude.{◌≡◌, Bool, true, List, Contains};
 ghost use Rattle.ct_sorts.specs.Declarations.{Declarations};
 ghost use Rattle.ct_terms.specs.declared.ids.TermId.{TermId};

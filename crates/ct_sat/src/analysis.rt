@@ -1,4 +1,4 @@
-//! The analysis of a conflict: down the trail to the first unique implication point, and the clause that this teaches.
+//! Conflict analysis: down the trail to the first unique implication point, and the clause that is learned.
 ghost use Rattle.std.specs.Prelude.{◌≡◌, ℕ, ◌+◌, ◌-◌, ◌<◌, ◌≤◌, List, [], ◌∷◌, ◌++◌, length, reverse, All, Some, slice_get, Contains, OnOk, IfOk};
 ghost use Rattle.ct_terms.specs.declared.ids.Lit.{Lit};
 ghost use Rattle.ct_terms.specs.Clause.{Clause};

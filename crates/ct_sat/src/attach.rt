@@ -1,4 +1,4 @@
-//! The clauses that were added since the last propagation: what they watch, and what follows from them.
+//! The clauses added since the last propagation: what they watch, and what follows from them.
 ghost use Rattle.std.specs.Prelude.{◌≡◌, ℕ, ◌+◌, ◌<◌, ◌≤◌, ◌⊎◌, length, List, Some, slice_get, set, All, Contains, MatchOption, MatchBool};
 ghost use Rattle.ct_terms.specs.declared.ids.Lit.{Lit};
 ghost use Rattle.ct_terms.specs.Propagation.{IsFalseIn, AreFalseIn};

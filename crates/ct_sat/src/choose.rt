@@ -1,4 +1,4 @@
-//! The choice of the literals of a clause that are watched.
+//! Chooses the literals of a clause that are watched.
 ghost use Rattle.std.specs.Prelude.{◌≡◌, ◌<◌, ◌⊎◌, All, Contains, MatchBool, MatchOption};
 ghost use Rattle.ct_terms.specs.Propagation.{IsFalseIn};
 ghost use Rattle.ct_sat.specs.Watching.{IsReplacement};

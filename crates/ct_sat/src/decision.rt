@@ -1,4 +1,4 @@
-//! What a decision answers, and the variable that is decided next.
+//! The result of a decision, and the variable that is decided next.
 ghost use Rattle.std.specs.Prelude.{◌≡◌, ◌<◌, take, All, Contains, MatchOption};
 ghost use Rattle.ct_terms.specs.declared.ids.TermId.{TermId};
 ghost use Rattle.ct_sat.specs.Up.{IsAssigned, IsLowest};

@@ -1,4 +1,4 @@
-//! What a conflict teaches.
+//! What is learned from a conflict.
 use ct_sorts::Items;
 use ct_terms::Lit;
 

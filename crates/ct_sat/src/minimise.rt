@@ -1,5 +1,5 @@
 //! Which literals of a learned clause are left out (local minimisation; Sörensson and Biere 2009): those that others of it
-//! imply by one reason. How short the clause is has no clause here: it follows whichever are left out.
+//! imply by one reason. No clause of a contract says how short the clause is: it follows, whichever literals are left out.
 ghost use Rattle.std.specs.Prelude.{◌≡◌, ◌<◌, length, All, Some, slice_get, IfSome};
 ghost use Rattle.ct_sat.specs.declared.clause.StepClause.{StepClause};
 ghost use Rattle.ct_sat.specs.Assigned.{HaveReasons, IsReason};

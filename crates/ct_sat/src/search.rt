@@ -99,8 +99,8 @@ impl Search {
         })
     }
 
-    /// Adds a clause, given by the step with this number. It may be empty, and literals may be repeated. Its only error is
-    /// out of memory, after which the search is to be dropped.
+    /// Adds a clause, which the step with this number gives. It may be empty, and literals may be repeated. Its only
+    /// error is out of memory, after which the search is to be dropped.
     pub fn add_clause(&mut self, lits: &[Lit], step: u64) -> Result<(), SatError>
         requires over { AreOver self.old.variables lits.now }
         requires fresh { IsFresh self.old.clauses step }
@@ -122,8 +122,8 @@ impl Search {
         Ok(())
     }
 
-    /// Puts all literals that follow by units from the clauses and the decisions at the end of the trail. Answers the step
-    /// of a clause that is false then, or none where no clause is false and nothing more follows. Takes no memory.
+    /// Appends all literals to the trail that follow by units from the clauses and the decisions. Answers the step of a
+    /// clause that is false then, or none where no clause is false and nothing more follows. Takes no memory.
     pub fn propagate(&mut self) -> Option<u64>
         ensures appends { AppendsTo self.old self.new }
         ensures sound { IsSound self.new }
@@ -150,7 +150,7 @@ impl Search {
         }
     }
 
-    /// Makes the lowest variable without a value false, where the budget of decisions is not spent. Takes no memory.
+    /// Makes the lowest variable without a value false, if the budget of decisions is not spent. Takes no memory.
     pub fn decide(&mut self) -> Decision
         requires quiet { IsQuiet self.old }
         ensures all { (result ≡ Decision.All) ↔ HaveValues self.old }
@@ -183,7 +183,7 @@ impl Search {
         }
     }
 
-    /// Makes this literal true, whose variable has no value, where the budget of decisions is not spent. Takes no memory.
+    /// Makes this literal true, if the budget of decisions is not spent; its variable has no value. Takes no memory.
     pub fn decide_on(&mut self, literal: Lit)
         requires variable { Contains self.old.variables literal.term }
         requires unset { IsAssigned (Contains self.old.trail) literal.term → ⊥ }
@@ -201,7 +201,7 @@ impl Search {
         self.count += 1;
     }
 
-    /// Takes back all decisions. Whether there were any: else nothing changes. Takes no memory.
+    /// Undoes all decisions. Whether there were any: else nothing changes. Takes no memory.
     pub fn restart(&mut self) -> bool
         ensures restarted { MatchBool result (Restarts self.old self.new) ((self.old.decided ≡ []) × (self.new ≡ self.old)) }
     {
@@ -289,7 +289,7 @@ impl Search {
         self.count
     }
 
-    /// Whether as many decisions were made as may be.
+    /// Whether all decisions that are allowed were made.
     pub fn is_spent(&self) -> bool
         ensures spent { MatchBool result (self.now.count ≡ self.now.budget) (self.now.count < self.now.budget) }
     {
@@ -303,7 +303,7 @@ impl Search {
         self.variables.as_slice()
     }
 
-    /// The variable at this place among them, where it has no value.
+    /// The variable at this index among them, if it has no value.
     pub fn unset_variable(&self, place: usize) -> Option<TermId>
         ensures unset { MatchOption result ((t : TermId) → slice_get self.now.variables place ≡ Some t → IsAssigned (Contains self.now.trail) t)
             (λ t. (slice_get self.now.variables place ≡ Some t) × (IsAssigned (Contains self.now.trail) t → ⊥)) }

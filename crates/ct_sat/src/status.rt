@@ -1,4 +1,4 @@
-//! What a clause is under the trail.
+//! The status of a clause under the trail.
 ghost use Rattle.std.specs.Prelude.{◌≡◌, ◌<◌, Some, All, MatchBool};
 ghost use Rattle.ct_terms.specs.declared.ids.Lit.{Lit};
 ghost use Rattle.ct_terms.specs.Propagation.{AreFalseIn};

@@ -1,4 +1,4 @@
-//! The clauses of a search with their watches: one more.
+//! Adds a clause to a search, with its watches.
 ghost use Rattle.std.specs.Prelude.{◌≡◌, ◌+◌, ◌≤◌, [], ◌∷◌, ◌++◌, vec_len, vec_capacity, OnOk};
 ghost use Rattle.ct_sat.specs.Watching.{IsNoted};
 

@@ -1,4 +1,4 @@
-//! What follows from the definitions alone.
+//! Theorems about the definitions alone.
 ghost use Rattle.std.specs.Prelude.{◌≡◌, ℕ, ◌⊎◌, List, ◌++◌, take, Some, slice_get, All, Contains};
 ghost use Rattle.ct_terms.specs.declared.ids.TermId.{TermId};
 ghost use Rattle.ct_terms.specs.declared.ids.Lit.{Lit};
@@ -11,7 +11,7 @@ ghost use Rattle.ct_sat.specs.Up.{IsClosed, Up, IsContradictory, IsAssigned, IsL
 ghost use Rattle.ct_sat.specs.State.{SearchState, clauses_of, literals_of, FollowsByUnits, IsSound, IsConflict, IsQuiet};
 ghost use Rattle.ct_sat.specs.Learning.{FollowsBy, StandAtSteps};
 
-/// Theorems on what follows by units, for whoever proves something about a search. The function does nothing.
+/// Theorems on what follows by units, for proofs about searches. The function does nothing.
 ///
 /// What follows is least, and itself closed; it grows with the clauses and the decisions. The trail follows, and its part
 /// before a decision follows from the decisions before that. A clause that is false in the trail makes what follows
@@ -33,7 +33,7 @@ pub fn what_follows_by_units()
     ensures lowest { (s : SearchState) (variables : List TermId) (t : TermId) → IsQuiet s → IsLowest variables (Contains s.trail) t → IsLowest variables (FollowsByUnits s) t }
 {}
 
-/// The theorem on what a search learns, for whoever checks its clauses. The function does nothing.
+/// The theorem on learned clauses, for checkers of them. The function does nothing.
 ///
 /// Where each clause of the search stands in a list at the number of its step, a clause that follows from the search by
 /// hints follows by them from the list, by reverse unit propagation.

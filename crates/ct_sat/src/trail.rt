@@ -1,4 +1,4 @@
-//! The trail: the literals made true, in order, with why each is, and where each term stands.
+//! The trail: the literals made true, in order, each with its reason, and the index of each term.
 ghost use Rattle.std.specs.Prelude.{◌≡◌, ℕ, ◌<◌, ◌≤◌, ◌+◌, ◌^◌, [], ◌∷◌, ◌++◌, length, take, Option, None, Some, slice_get, IfOk, MatchOption, Contains, vec_len, vec_capacity};
 ghost use Rattle.ct_terms.specs.declared.ids.Lit.{Lit};
 ghost use Rattle.ct_sat.specs.declared.decided.Decided.{Decided};

@@ -1,4 +1,4 @@
-//! What a literal is under the literals made true.
+//! The value of a literal under the literals made true.
 
 /// The value of a literal.
 #[derive(Clone, Copy, Debug, PartialEq, Eq)]

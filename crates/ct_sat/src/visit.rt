@@ -1,4 +1,4 @@
-//! The clauses that watch a literal, once that is false.
+//! Visits the clauses that watch a literal once it is false.
 ghost use Rattle.std.specs.Prelude.{◌≡◌, ℕ, ◌+◌, ◌<◌, ◌≤◌, length, List, Some, slice_get, All, Contains, MatchOption};
 ghost use Rattle.std.specs.Bool.{OnTrue};
 ghost use Rattle.ct_terms.specs.declared.ids.Lit.{Lit};

@@ -38,7 +38,7 @@ impl Environment {
         Environment { bounds }
     }
 
-    /// These too, which are bound in order.
+    /// Binds these as well, in order.
     pub fn bind(&mut self, bounds: &[Bound]) -> Result<(), AllocError>
         ensures bound { OnOk result (self.new ≡ bound_over bounds.now self.old) }
         ensures unchanged { OnErr result (self.new ≡ self.old) }
@@ -46,7 +46,7 @@ impl Environment {
         self.bounds.extend_from_slice(bounds)
     }
 
-    /// Without the variables that were bound last, so many of them.
+    /// Unbinds the variables that were bound last, as many as given.
     pub fn unbind(&mut self, count: usize)
         ensures rest { self.new ≡ drop count self.old }
     {

@@ -1,4 +1,4 @@
-//! Calls of definitions that are compiled already, so that none of them is compiled again.
+//! Calls of definitions that are already compiled, so that none is compiled again.
 ghost use Rattle.std.specs.Prelude.{◌≡◌, ◌⊎◌, [], ◌∷◌, ◌++◌, Some, IfOk, IfErr, OnOk, OnErr};
 ghost use Rattle.indexmap.specs.IndexMap.{get};
 ghost use Rattle.ct_sorts.specs.declared.ids.DefId.{DefId};
@@ -59,7 +59,7 @@ fn add_term(args: &mut Args, bound: Bound) -> Result<(), AllocError>
     }
 }
 
-/// The term of the call, where it is known: the one that was put down last.
+/// The term of the call, if it is known: the one that was recorded last.
 #[inline(never)]
 pub fn known_term(known: &Known, call: &Called) -> Option<TermId>
     ensures value { result ≡ get same_call known.now call.now }
@@ -67,7 +67,7 @@ pub fn known_term(known: &Known, call: &Called) -> Option<TermId>
     known.get(call).copied()
 }
 
-/// Puts down the term of a call, in place of one that was put down for it before. What is known of other calls stays as it
+/// Records the term of a call, replacing one that was recorded for it before. What is known of other calls stays as it
 /// is. It fails only where memory runs out, and changes nothing then.
 #[inline(never)]
 pub fn remember(known: &mut Known, call: Called, term: TermId) -> Result<(), TermError>

@@ -1,5 +1,5 @@
-//! What a formula is compiled in: the scope, what its variables stand for, and the calls that are compiled already. The
-//! definitions of this crate say what compiling a formula gives.
+//! The context in which a formula is compiled: the scope, the meaning of its variables, and the calls that are already
+//! compiled. The definitions of this crate say what compiling a formula gives.
 #![tactic(auto)]
 
 mod bindings;

@@ -1,4 +1,4 @@
-//! The term of a closed value of a listable sort, after those of the values under it. Values may lie deep in each other: there is
+//! The term of a closed value of a listable sort, after those of the values under it. Values may be nested deeply, so there is
 //! no recursion.
 ghost use Rattle.std.specs.Prelude.{◌≡◌, ◌<◌, ◌≤◌, List, [], length, drop, Some, None, slice_get, IfOk, IfErr, OnOk, MatchOption};
 ghost use Rattle.ct_sorts.specs.declared.ids.SortId.{SortId};

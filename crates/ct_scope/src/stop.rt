@@ -1,4 +1,4 @@
-//! Why compiling stops before the end: an error, or a call of a definition that lies too deep.
+//! Why compilation stops early: an error, or a call of a definition that is too deep.
 ghost use Rattle.std.specs.Prelude.{◌≡◌};
 ghost use Rattle.ct_terms.specs.declared.error.TermError.TheVariants.{NoMemory};
 ghost use Rattle.ct_scope.specs.declared.stop.Stop.TheVariants.{Failed};

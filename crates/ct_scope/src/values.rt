@@ -41,8 +41,8 @@ pub fn no_value_terms(alloc: Global) -> ValueTerms
     IndexMap::new(alloc)
 }
 
-/// What the variables of a quantifier stand for: for each whose flag is set the term of the value with this number in the list
-/// of its sort.
+/// What the variables of a quantifier stand for: for each variable whose flag is set, the term of the value with this
+/// number in the list of its sort.
 pub fn value_bounds(
     alloc: Global,
     sig: &Signature,

@@ -1,4 +1,4 @@
-//! The stack of lists whose closing parenthesis was not read yet.
+//! The stack of lists whose closing parenthesis has not been read yet.
 
 ghost use Rattle.std.specs.Prelude.{◌≡◌, ◌+◌, ◌-◌, ◌<◌, [], ◌∷◌, ◌++◌, OnOk, OnErr, IfErr};
 ghost use Rattle.ct_sexpr.specs.Token.{opening, closing};

@@ -1,4 +1,4 @@
-//! The reader: bytes are fed, and whole commands, errors or the end come out.
+//! The reader: it is fed bytes, and returns complete commands, errors or the end.
 
 ghost use Rattle.std.specs.Prelude.{◌≡◌, ℕ, ◌+◌, ◌^◌, ◌<◌, ◌≤◌, List, [], ◌++◌, true, false, length, drop, OnOk, OnErr, IfOk, IfErr};
 ghost use Rattle.ct_sexpr.specs.Buffered.{IsTight};
@@ -109,8 +109,8 @@ impl Reader {
         }
     }
 
-    /// How many bytes were fed that belong to no command given so far. Once all bytes were read, as after `Need`, these are
-    /// all bytes that the reader stores.
+    /// How many of the bytes that were fed belong to no command returned so far. Once all bytes were read, as after
+    /// `Need`, these are all bytes that the reader stores.
     pub fn kept_bytes(&self) -> u64
         ensures value { result ≡ length self.now.bytes }
         ensures within { result ≤ self.now.fed }

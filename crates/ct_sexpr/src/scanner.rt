@@ -1,4 +1,4 @@
-//! Reads one byte: where the scanner is, and what the byte does there.
+//! Reads one byte: the state of the scanner, and what the byte does in it.
 
 ghost use Rattle.std.specs.Prelude.{◌≡◌, ℕ, ◌+◌, ◌<◌, ◌≤◌, ◌^◌, ◌==◌, true, false, [], ◌∷◌, ◌++◌, Ok, Err, OnOk, OnErr, IfErr, IfSome, IfNone};
 ghost use Rattle.ct_sexpr.specs.Whitespace.{is_whitespace, line_feeds, semicolon};

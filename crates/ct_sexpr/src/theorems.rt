@@ -1,4 +1,4 @@
-//! Theorems about texts: what is read of one, and of what was written.
+//! Theorems about texts that are read and written.
 
 ghost use Rattle.std.specs.Prelude.{◌≡◌, ◌↔◌, ℕ, true, ◌<◌, ◌≤◌, ◌⊎◌, List, [], ◌∷◌, ◌++◌, length, drop, slice_get, Some};
 ghost use Rattle.ct_sexpr.specs.Whitespace.{after_whitespace, line_of_rest};
@@ -17,8 +17,7 @@ ghost use Rattle.ct_sexpr.specs.View.{expression_of, expressions_of};
 ghost use Rattle.ct_sexpr.specs.declared.sexpr.Sexpr.{Sexpr};
 ghost use Rattle.ct_sexpr.specs.Text.{Located, Ending, lexical, Reads, EndingSoFar, waiting, refused, ReadsSoFar};
 
-/// The theorems on reading the first command of bytes, for whoever proves something about scripts.
-/// The function does nothing.
+/// Theorems on reading the first command of bytes, for proofs about scripts. The function does nothing.
 ///
 /// Bytes that may go on begin with exactly one command, or are unfinished, or an error in them is
 /// definite, and only one of the three. Where the input ends after unfinished bytes, they are
@@ -51,8 +50,7 @@ pub fn one_reading()
     ensures whitespace_is_a_prefix { (bytes : List ℕ) → (prefix : List ℕ) × (bytes ≡ prefix ++ after_whitespace bytes) }
 {}
 
-/// What the number of an error says of its position, for whoever proves something about scripts.
-/// The function does nothing.
+/// Theorems on the position of an error by its number, for proofs about scripts. The function does nothing.
 ///
 /// A closing parenthesis outside all parentheses and an atom outside them stand at the start of the
 /// bytes, after whitespace and comments; that the input ends inside parentheses stands at its end;
@@ -66,8 +64,7 @@ pub fn error_positions()
         → (b : ℕ) × (remaining : List ℕ) × (suffix ≡ b ∷ remaining) × (begins_atom b ≡ true) × (after_whitespace bytes ≡ suffix) }
 {}
 
-/// The theorems on reading whole texts, for whoever proves something about scripts. The function
-/// does nothing.
+/// Theorems on reading whole texts, for proofs about scripts. The function does nothing.
 ///
 /// A text has exactly one reading, and a text that may go on has exactly one reading so far. The
 /// pieces in which a text comes do not matter. The command that bytes begin with is the first of
@@ -100,8 +97,7 @@ pub fn one_text()
         → ReadsSoFar line bytes cs waiting → ReadsSoFar line (bytes ++ tail) ds y → (es : List Located) × (ds ≡ cs ++ es) }
 {}
 
-/// The theorems on what is written, for whoever proves something about texts that are printed and
-/// read back. The function does nothing.
+/// Theorems on printed expressions, for proofs about texts that are printed and read back. The function does nothing.
 ///
 /// An expression is readable where each atom in it has the form of its kind. The command that bytes
 /// begin with is readable and nests within the limit, and what is written of a readable list that
@@ -118,7 +114,7 @@ pub fn written_texts()
     ensures name_text { (a : Atom) (name : List ℕ) → HasForm a → name_of_atom a ≡ Some name → written_atom a ≡ written_name name }
 {}
 
-/// The theorems on nesting, for whoever recurses over an expression. The function does nothing.
+/// Theorems on nesting, for functions that recur over an expression. The function does nothing.
 ///
 /// Each item of a list nests less than the list, also by its index among the items in memory; the
 /// items from an index on nest no deeper than all; and a command that a reader gives nests within
@@ -134,8 +130,8 @@ pub fn nested_lists()
         → GivesCommand old new e line → nesting e ≤ nesting_limit }
 {}
 
-/// The theorems on whitespace and comments between tokens (SMT-LIB 2.7, section 3.1), for whoever
-/// proves something about texts that are read. The function does nothing.
+/// Theorems on whitespace and comments between tokens (SMT-LIB 2.7, section 3.1), for proofs about texts that are read.
+/// The function does nothing.
 ///
 /// A list is read as a command exactly where its tokens are and it nests within the limit, whatever
 /// whitespace and comments stand between them. Whitespace and whole comments before other bytes

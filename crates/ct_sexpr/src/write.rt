@@ -11,11 +11,10 @@ use crate::reserved::is_simple;
 use crate::sexpr::Sexpr;
 use std::alloc::Global;
 
-/// The expression as it is written (SMT-LIB 2.7, sections 3.1 and 3.2): single spaces between the
-/// items of a list, names quoted where they need to be, numerals in decimal without leading zeros,
-/// and strings with each quotation mark twice. What is written of a command that was read is read
-/// as the same expression, with a quoted name that need not be quoted as a simple one;
-/// `written_texts` says more of what is written. The only error is `NoMemory`.
+/// The expression as text (SMT-LIB 2.7, sections 3.1 and 3.2): single spaces between the items of a list, names quoted
+/// if necessary, numerals in decimal without leading zeros, and strings with each quotation mark twice. What is written
+/// of a command that was read is read as the same expression, with a quoted name that need not be quoted as a simple
+/// one; `written_texts` says more of what is written. The only error is `NoMemory`.
 pub fn sexpr_text(alloc: Global, expr: &Sexpr) -> Result<Bytes, ReadError>
     ensures text { IfOk result (λ text. text ≡ written (expression_of expr.now)) }
     ensures err { IfErr result (λ e. e ≡ ReadError.NoMemory) }

@@ -1,4 +1,4 @@
-//! A check of the assertions at some places.
+//! A check of the assertions at some of the places.
 ghost use Rattle.std.specs.Prelude.{◌≡◌, ◌<◌, List, All, Contains, Some, length, slice_get, IfOk};
 ghost use Rattle.ct_terms.specs.declared.ids.TermId.{TermId};
 ghost use Rattle.ct_terms.specs.Terms.{AreSorted, IsBoolean};

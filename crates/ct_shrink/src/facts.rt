@@ -1,4 +1,4 @@
-//! The theorems of lower crates that the contracts of this one rest on.
+//! The theorems of lower crates on which the contracts of this one rest.
 ghost use Rattle.ct_engine.specs.Theorems.{ModelTheorems};
 
 use ct_checker::accepted_lines;

@@ -1,4 +1,4 @@
-//! Cores that are shrunk.
+//! Shrinks cores.
 //!
 //! A check without each assertion in turn says whether it is needed: where the others are refuted, it goes (the deletion filter of
 //! Chinneck and Dravnieks 1991).
@@ -32,9 +32,9 @@ pub(crate) struct Draft {
     pub(crate) derivation: Box<Derivation>,
 }
 
-/// Shrinks a core of the assertions, which are terms of the table: for each of its places in order there is a check without the
-/// assertion there, of at most so many decisions, and after `Unsat` the place goes. The checks have the clauses of the theory that
-/// the derivation of the core has, and those that earlier ones of them gave.
+/// Shrinks a core of the assertions, which are terms of the table. For each place of the core in order it checks the
+/// other assertions, with at most `budget` decisions, and removes the place after `Unsat`. The checks have the clauses
+/// of the theory that the derivation of the core has, and those that earlier ones of them gave.
 ///
 /// The closure of all assertions has at most 200,000 terms. There are as many checks as the core has places. The only error is
 /// out of memory, after which the core is gone.

@@ -1,4 +1,4 @@
-//! What shrinking a core gives.
+//! The result of shrinking a core.
 
 use ct_core::UnsatCore;
 use ct_engine::Spent;

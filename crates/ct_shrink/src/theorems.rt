@@ -1,4 +1,4 @@
-//! What follows from the definitions alone. A theorem is the contract of a function that does nothing.
+//! Theorems about the definitions alone. Each is the contract of a function that does nothing.
 ghost use Rattle.std.specs.Prelude.{ℕ, List};
 ghost use Rattle.ct_sorts.specs.Declarations.{Declarations};
 ghost use Rattle.ct_sorts.specs.Consistent.{IsConsistent};
@@ -12,7 +12,7 @@ ghost use Rattle.ct_shrink.specs.Shrunk.{IsCoreOf, IsRefutedAt};
 
 use crate::facts::models;
 
-/// The theorem on cores of refutations, for whoever prints one or has it shrunk. The function does nothing.
+/// The theorem on cores of refutations, for printing or shrinking them. The function does nothing.
 pub fn cores_of_refutations()
     // The core of a refutation is a core of the assertions.
     ensures core { (d : Declarations) (table : Terms) (asserts : List TermId) (derived core : Derived) (places : List ℕ)

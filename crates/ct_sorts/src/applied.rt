@@ -1,5 +1,5 @@
-//! What a signature says of names with arguments: how many arguments a name takes, which sort or generic stands at the head
-//! of a sort, and instances by their generic and the numbers of their arguments.
+//! What a signature says about names with arguments: how many arguments a name takes, which sort or generic is the head of a
+//! sort, and instances by their generic and the numbers of their arguments.
 ghost use Rattle.std.specs.Prelude.{◌≡◌, ℕ, List, ◌∷◌, [], ◌<◌, ◌^◌, length, slice_get, Some, All, option_map, IfSome, IfNone, IfOk, IfErr, IsErrOf, OnOk, OnErr};
 ghost use Rattle.std.specs.List.{AllZip};
 ghost use Rattle.ct_generics.specs.declared.nodes.ExprId.{ExprId};
@@ -54,8 +54,8 @@ impl Signature {
         find_applied(&self.tables, g, args)
     }
 
-    /// The number of a generic at these sorts, which comes into the list with all that it needs where it is not there. It is
-    /// refused with 16 as `instance` is. A refusal changes nothing.
+    /// The number of a generic at these sorts; if it is not in the list, it is added with everything that it needs. It
+    /// is refused with 16 as `instance` is. A refusal changes nothing.
     pub fn instance_at(&mut self, g: GenId, args: &[SortId]) -> Result<SortId, SigError>
         requires generic { TakesAll self.old g args.now }
         requires sorts { All (IsSort self.old) args.now }

@@ -1,4 +1,4 @@
-//! What can be copied where memory is found.
+//! Types that can be copied if memory is available.
 ghost use Rattle.std.specs.Prelude.{◌≡◌, IfOk};
 
 use std::alloc::{AllocError, Global};

@@ -1,4 +1,4 @@
-//! What a signature keeps of each declaration beside its name.
+//! What a signature stores of each declaration besides its name.
 ghost use Rattle.std.specs.Prelude.{◌≡◌, IfOk};
 
 use crate::duplicate::Duplicate;

@@ -1,4 +1,4 @@
-//! What crates below say, as one theorem.
+//! Facts from the crates below, as one theorem.
 ghost use Rattle.ct_sorts.specs.Facts.{Facts};
 
 use ct_generics::{additions, denotations, expressions, instances};

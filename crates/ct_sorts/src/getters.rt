@@ -1,4 +1,4 @@
-//! What a signature says of names and numbers.
+//! What a signature says about names and numbers.
 ghost use Rattle.std.specs.Prelude.{◌≡◌, ℕ, Bool, ◌<◌, ◌≤◌, ◌^◌, List, [], length, map, unwrap_or, Some, None, option_map, slice_get, All, IsTrue, ◌↔◌, IfSome, IfNone, MatchOption};
 ghost use Rattle.std.specs.List.{AllZip};
 ghost use Rattle.ct_generics.specs.Expression.{Expression, named, head_of, args_of};
@@ -41,8 +41,8 @@ impl Signature {
         }
     }
 
-    /// What the name stands for: `true` and `false` for the constructors 0 and 1, and the other words of the core
-    /// theory for nothing. The constructors and selectors of instances have no names of their own: the name is that of the
+    /// What the name stands for: `true` and `false` for the constructors 0 and 1; the other words of the core theory
+    /// for nothing. The constructors and selectors of instances have no names of their own: the name is that of the
     /// generic's. `None` where the name is not declared.
     pub fn lookup(&self, name: &[u8]) -> Option<Symbol>
         ensures value { ResolvesTo self.now name.now result }
@@ -168,7 +168,7 @@ impl Signature {
         sel_entry(&self.tables, s).ctor
     }
 
-    /// The place of a selector's field among those of its constructor, from 0 on.
+    /// The index of a selector's field among the fields of its constructor, from 0.
     pub fn sel_place(&self, s: SelId) -> u32
         requires inside { IsSelector self.now s }
         ensures value { option_map (λ s. s.place) (slice_get self.now.sels s.0) ≡ Some result }
@@ -256,8 +256,8 @@ impl Signature {
         self.tables.sorts.get(s.0 as usize).args.as_slice()
     }
 
-    /// The text of a sort: names are quoted where they need to be, and an instance is the list of its generic and its
-    /// arguments, with single spaces.
+    /// The text of a sort: names are quoted if necessary, and an instance is the list of its generic and its arguments,
+    /// with single spaces.
     pub fn sort_text(&self, s: SortId) -> &[u8]
         requires inside { IsSort self.now s }
         ensures value { (e : Expression) → IsOrigin self.now s e → result.now ≡ sort_text self.now.declared.heads e }
@@ -338,8 +338,8 @@ impl Signature {
         self.tables.generics.rows(HeadId(u64::from(g.0))).len() as u32
     }
 
-    /// The sorts of the fields of a constructor of a generic, over its parameters, and the expressions in which they stand.
-    /// Synonyms are expanded in them.
+    /// The sorts of the fields of a generic's constructor, over its parameters, and the expressions to which they
+    /// belong. Synonyms are expanded in them.
     pub fn gen_fields(&self, g: GenId, ctor: u32) -> (&Expressions, &[ExprId])
         requires generic { IsGeneric self.now g }
         requires below { (head : Head) → IsGenericHead self.now g head → ctor < length head.ctors }

@@ -1,4 +1,4 @@
-//! Puts sorts, with their constructors and selectors, after those that are there.
+//! Appends sorts with their constructors and selectors.
 ghost use Rattle.std.specs.Prelude.{◌≡◌, ℕ, ◌+◌, ◌<◌, ◌≤◌, ◌⊎◌, ◌^◌, ◌++◌, List, [], ◌∷◌, length, map, drop, take, sum, All, if◌then◌else◌, ◌==◌, Some, None, slice_get, IfOk, IfErr, OnOk};
 ghost use Rattle.std.specs.List.{AllZip, range_with_len};
 ghost use Rattle.ct_generics.specs.declared.nodes.ExprId.{ExprId};

@@ -1,4 +1,4 @@
-//! Instances of generics: sorts that come into the list as they are needed.
+//! Instances of generics: sorts that are added when they are needed.
 ghost use Rattle.std.specs.Prelude.{◌≡◌, ℕ, List, [], ◌∷◌, Ok, IfOk, IfErr, IfSome, IfNone, IsErrOf, OnOk, OnErr, ◌<◌, ◌^◌, length, slice_get, Some};
 ghost use Rattle.ct_generics.specs.Declarations.{IsExpression};
 ghost use Rattle.ct_generics.specs.Denoted.{declared_of, sorts_of};

@@ -1,4 +1,4 @@
-//! One more item in a list.
+//! Adds an item to a list.
 ghost use Rattle.std.specs.Prelude.{◌≡◌, ◌++◌, [], ◌∷◌, IfErr, OnErr, OnOk};
 
 use crate::error::{SigError, sig_error};

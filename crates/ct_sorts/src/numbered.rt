@@ -1,4 +1,4 @@
-//! A map from names to what is declared under them, in which an index is a number.
+//! A map from names to what is declared under them, with indices as numbers.
 ghost use Rattle.std.specs.Prelude.{◌≡◌, ℕ, ◌+◌, ◌<◌, ◌^◌, [], ◌∷◌, ◌++◌, List, length, take, Some, option_map, slice_get, IfSome, MatchOption, OnOk, OnErr, IfErr, IfOk, IsTrue, ◌↔◌};
 ghost use Rattle.ct_sorts.specs.Availability.{IsListed};
 ghost use Rattle.ct_sorts.specs.Lookup.{AreDistinct, names_of, index_of};

@@ -9,7 +9,7 @@ ghost use Rattle.ct_generics.specs.WellFormed.{has_below};
 
 use ct_generics::{CtorDecl, SortDecl, SortExpr};
 
-/// Whether each parameter in the written sort is one of so many.
+/// Whether all parameters in the written sort are below a number.
 #[cycle(parameters)]
 pub fn are_parameters_below(params: u64, expr: &SortExpr) -> bool
     ensures below { IsTrue result ↔ AreParametersBelow params expr.now }

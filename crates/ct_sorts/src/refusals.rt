@@ -1,4 +1,4 @@
-//! The numbers of the errors by which a declaration is refused.
+//! The numbers of the errors with which a declaration is refused.
 
 /// The name of a sort, a constructor or a selector is taken, or cannot be declared.
 pub(crate) const NAME_TAKEN: u16 = 11;

@@ -1,4 +1,4 @@
-//! The signature: all declarations, how they grow and are cut back.
+//! The signature: all declarations, how they grow and how they are cut back.
 
 ghost use Rattle.std.specs.Prelude.{◌≡◌, ◌||◌, ℕ, List, ◌<◌, ◌≤◌, ◌⊎◌, ◌↔◌, [], length, Some, None, slice_get, All, IsTrue, IfSome, MatchOption, OnOk, OnErr, IfOk, IfErr, IfNone, IsErrOf, Ok};
 ghost use Rattle.ct_generics.specs.declared.kind.Kind.TheVariants.{Free as OfFree};
@@ -174,10 +174,10 @@ impl Signature {
         declare_block(self.alloc, &mut self.tables, &mark, kind, block)
     }
 
-    /// Declares a synonym of a sort expression over so many parameters (SMT-LIB 2.7, section 4.2.3, `define-sort`). It is
-    /// refused with 11 where the name is taken or cannot be declared; then with 12 at an unknown name and 22 at a wrong
-    /// number of arguments in the body, by place; and then with 16 where the text of the body is longer than 65,536 bytes or
-    /// where there are 4,096 sorts, generics and synonyms. A refusal changes nothing.
+    /// Declares a synonym of a sort expression with a number of parameters (SMT-LIB 2.7, section 4.2.3, `define-sort`).
+    /// It is refused with 11 where the name is taken or cannot be declared; then with 12 at an unknown name and 22 at a
+    /// wrong number of arguments in the body, by place; and then with 16 where the text of the body is longer than
+    /// 65,536 bytes or where there are 4,096 sorts, generics and synonyms. A refusal changes nothing.
     pub fn add_synonym(&mut self, name: Name, params: u64, body: SortExpr) -> Result<(), SigError>
         requires parameters { AreParametersBelow params body }
         ensures ok { OnOk result (IsWithSynonym self.old name params body self.new) }
@@ -190,10 +190,10 @@ impl Signature {
         declare_synonym(self.alloc, &mut self.tables, &mark, &name, params, &body)
     }
 
-    /// The number of a written sort, which comes into the list with all that it needs where it is not there: its arguments
-    /// before it, and the sorts of its fields after it. It is refused with 12 at an unknown name and 22 at a wrong number of
-    /// arguments, by place, and then with 16 where a sort that would come has a text longer than 65,536 bytes or where there
-    /// would be more sorts, constructors or selectors than there may be. A refusal changes nothing.
+    /// The number of a written sort; if it is not in the list, it is added: after its arguments, and before the sorts
+    /// of its fields. It is refused with 12 at an unknown name and 22 at a wrong number of arguments, by place, and
+    /// then with 16 where a sort that would come has a text longer than 65,536 bytes or where there would be more
+    /// sorts, constructors or selectors than there may be. A refusal changes nothing.
     pub fn instance(&mut self, expr: &SortExpr) -> Result<SortId, SigError>
         requires closed { AreParametersBelow 0 expr.now }
         ensures ok { IfOk result (λ s. IsWithInstance self.old expr.now self.new s) }
@@ -205,8 +205,8 @@ impl Signature {
         add_instance(self.alloc, &mut self.tables, &mark, expr)
     }
 
-    /// The number of a written sort that is in the list; none for any other, and where a name in it is unknown or has a wrong
-    /// number of arguments. The only error is `NoMemory`.
+    /// The number of a written sort that is in the list; none for any other, and if a name in it is unknown or has the
+    /// wrong number of arguments. The only error is `NoMemory`.
     pub fn find_instance(&self, expr: &SortExpr) -> Result<Option<SortId>, SigError>
         requires closed { AreParametersBelow 0 expr.now }
         ensures found { IfOk result (λ found. IfSome found (λ s. (e : Expression) × (resolved self.now.declared expr.now ≡ Ok e) × IsOrigin self.now s e)) }
@@ -321,11 +321,11 @@ impl Signature {
         }
     }
 
-    /// Takes back what was declared after the mark. The mark's lengths are at most the present ones. The
-    /// constructors of the sorts that are left are exactly the constructors that are left, and the selectors of
-    /// these are exactly the selectors that are left. No field, function or definition that is left has a sort
-    /// that goes, and no sort, generic or synonym that is left names one that goes. A mark that was made of this signature is
-    /// such a mark, as long as declarations were only added since.
+    /// Removes what was declared after the mark. The mark's lengths are at most the present ones. The constructors of
+    /// the sorts that are left are exactly the constructors that are left, and the selectors of these are exactly the
+    /// selectors that are left. No field, function or definition that is left has a sort that goes, and no sort,
+    /// generic or synonym that is left names one that goes. A mark that was made of this signature is such a mark, as
+    /// long as declarations were only added since.
     pub fn cut_to(&mut self, mark: &Mark)
         requires can_cut { CanCut self.old mark.now }
         ensures cut { self.new ≡ cut self.old mark.now }

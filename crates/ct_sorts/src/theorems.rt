@@ -1,4 +1,4 @@
-//! What holds of declarations. A theorem is the contract of a function that does nothing.
+//! Theorems about declarations. Each is the contract of a function that does nothing.
 ghost use Rattle.std.specs.Prelude.{◌≡◌, ◌+◌, ℕ, List, Option, Some, slice_get};
 ghost use Rattle.ct_generics.specs.declared.decl.SortDecl.{SortDecl};
 ghost use Rattle.ct_generics.specs.declared.expr.SortExpr.{SortExpr};

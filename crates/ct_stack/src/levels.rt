@@ -1,4 +1,4 @@
-//! Where the levels of the assertion stack began, and what goes with a level.
+//! Where the levels of the assertion stack began, and what is removed with a level.
 ghost use Rattle.std.specs.Prelude.{◌≡◌, ◌↔◌, ◌+◌, ◌-◌, ◌<◌, ◌≤◌, vec_len, vec_capacity, [], ◌++◌, length, slice_get, take, reverse, replicate, Some, IsTrue, OnOk, OnErr};
 ghost use Rattle.ct_sorts.specs.Marks.{CanCut, cut};
 ghost use Rattle.ct_stack.specs.Levels.{IsBeside};

@@ -1,4 +1,4 @@
-//! What terms that were asked for mean in a model, for as long as it stands.
+//! The values in a model of terms that were asked for, as long as the model is current.
 ghost use Rattle.std.specs.Prelude.{◌≡◌, [], Err, IfOk, OnErr};
 ghost use Rattle.ct_eval.specs.Interpretation.{IsProper};
 ghost use Rattle.ct_stack.specs.Held.{IsTableOf};

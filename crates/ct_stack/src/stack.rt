@@ -132,7 +132,7 @@ impl AssertionStack {
         (&self.table, self.numbers.as_slice())
     }
 
-    /// Declares an uninterpreted sort with so many arguments.
+    /// Declares an uninterpreted sort with a number of arguments.
     pub fn declare_sort(
         &mut self,
         alloc: Global,
@@ -242,7 +242,7 @@ impl AssertionStack {
         defined
     }
 
-    /// Adds an assertion, with the definition that its label names, where it has one: then it is this definition that is asserted.
+    /// Adds an assertion. If it has a label, the label is defined, and the definition is what is asserted.
     pub fn assert(
         &mut self,
         alloc: Global,
@@ -302,8 +302,8 @@ impl AssertionStack {
         assumed_terms(alloc, &self.scope, &self.table, numbers, assumed)
     }
 
-    /// Each term beside its value in the interpretation, with what is known of the values of other terms in it, which grows by
-    /// these.
+    /// Each term with its value in the interpretation, using known values of other terms in it, to which these are
+    /// added.
     pub fn values(
         &mut self,
         alloc: Global,
@@ -330,7 +330,7 @@ impl AssertionStack {
         )
     }
 
-    /// So many levels more, at which nothing is asserted yet; at most 10,000 stand.
+    /// Adds this many levels, with nothing asserted at them; there can be at most 10,000.
     pub fn push(&mut self, n: u128) -> Result<(), CommandError>
         ensures ok { OnOk result (self.new ≡ pushed_by n self.old) }
         ensures accepted { OnOk result ((k : ℕ) → IsPushRefusal self.old n k → ⊥) }
@@ -351,8 +351,8 @@ impl AssertionStack {
         Ok(())
     }
 
-    /// So many levels fewer, with all that was asserted at them, and with what was declared and defined at them, but where
-    /// declarations are global. Takes no memory.
+    /// Removes this many levels, with all that was asserted at them, and with what was declared and defined at them
+    /// unless declarations are global. Takes no memory.
     pub fn pop(&mut self, global: bool, n: u128) -> Result<(), CommandError>
         ensures ok { OnOk result (self.new ≡ popped_by global n self.old) }
         ensures accepted { OnOk result ((k : ℕ) → IsPopRefusal self.old n k → ⊥) }
@@ -368,8 +368,8 @@ impl AssertionStack {
         Ok(())
     }
 
-    /// Takes all assertions back, and all levels but the outermost one, with what is declared and defined, but where declarations
-    /// are global. Takes no memory.
+    /// Removes all assertions, and all levels but the outermost one, with what is declared and defined unless
+    /// declarations are global. Takes no memory.
     pub fn empty(&mut self, global: bool)
         ensures emptied { self.new ≡ emptied global self.old }
     {
@@ -401,7 +401,8 @@ impl AssertionStack {
         self.levels.len()
     }
 
-    /// How much is declared once `pop` has taken so many levels, where it takes declarations; nothing where fewer levels stand.
+    /// How much is declared after a `pop` of this many levels that removes declarations; nothing if there are fewer
+    /// levels.
     pub fn mark_below(&self, global: bool, n: u128) -> Option<Mark>
         ensures mark { n ≤ length self.now.below → result ≡ left_by global n self.now }
         ensures above { length self.now.below < n → result ≡ None }
@@ -419,7 +420,7 @@ impl AssertionStack {
         Some(mark_before(levels, n as usize))
     }
 
-    /// How much is declared once `empty` has taken everything, where it takes declarations.
+    /// How much is declared after an `empty` that removes declarations.
     pub fn first_mark(&self, global: bool) -> Option<Mark>
         ensures mark { result ≡ left_emptied global }
         ensures cut { IfSome result (λ m. IsCutTo self.now.top.context.declarations m (emptied global self.now).top.context.declarations) }

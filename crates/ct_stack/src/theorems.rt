@@ -1,4 +1,4 @@
-//! The theorems on terms, formulas and declarations that a session stands on.
+//! The theorems on terms, formulas and declarations on which a session rests.
 ghost use Rattle.ct_stack.specs.Theorems.{Theorems};
 
 use ct_formulas::{formulas, scopes};

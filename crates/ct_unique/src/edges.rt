@@ -1,5 +1,5 @@
-//! The children of the points: under the representative of a class stand the representatives of the arguments of its
-//! constructor term.
+//! The children of the points: those of a class's representative are the representatives of the arguments of its constructor
+//! term.
 ghost use Rattle.std.specs.Prelude.{◌≡◌, ◌<◌, ℕ, length, IfOk, OnOk};
 ghost use Rattle.std.specs.List.{AllByRecursion};
 ghost use Rattle.ct_terms.specs.Terms.{AreSorted};

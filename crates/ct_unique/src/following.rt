@@ -22,10 +22,10 @@ use ct_terms::{Core, TermId};
 use indexmap::IndexMap;
 use std::alloc::Global;
 
-/// A list of pairs of constructor terms that holds the asked pair, where each pair has one constructor and at each place
-/// arguments that are equal, or equal to a pair of the list: what the rule of uniqueness asks for (Reynolds and Blanchette
-/// 2015, section 4). The two are constructor terms of one block. The time is linear in the arguments of the listed pairs. The
-/// only error is out of memory.
+/// A list of pairs of constructor terms that contains the given pair. Each pair has one constructor and, at each index,
+/// arguments that are equal or are equal to a pair of the list, as the rule of uniqueness requires (Reynolds and
+/// Blanchette 2015, section 4). The two are constructor terms of one block. The time is linear in the arguments of the
+/// listed pairs. The only error is out of memory.
 pub fn pairs(
     alloc: Global,
     partition: &Partition,

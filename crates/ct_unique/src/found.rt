@@ -1,4 +1,4 @@
-//! Pairs of constructor terms that are to be equal, with one pair at most for two classes.
+//! Pairs of constructor terms that must be equal, with at most one pair for two classes.
 ghost use Rattle.std.specs.Prelude.{◌≡◌, ◌<◌, length, OnOk, IsTrue, is_some};
 ghost use Rattle.indexmap.specs.IndexMap.{get};
 ghost use Rattle.ct_unique.specs.Found.{same_key, IsIndexed, IsAdded};

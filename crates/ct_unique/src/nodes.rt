@@ -1,4 +1,4 @@
-//! The classes as points: which term stands for a class, and the constructor term that is under it.
+//! The classes as points: the term that represents a class, and the constructor term that belongs to it.
 ghost use Rattle.std.specs.Prelude.{◌≡◌, ◌<◌, ℕ, length, Some, IfSome, IfNone};
 ghost use Rattle.ct_unique.specs.Nodes.{IsOwnCon, IsBare, term};
 

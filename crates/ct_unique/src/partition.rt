@@ -31,8 +31,8 @@ impl Partition {
         self.blocks[t.0 as usize]
     }
 
-    /// Two constructor terms of different classes in one block, where there are any; else bisimilar classes are one. Takes no
-    /// memory; linear.
+    /// Two constructor terms of different classes in one block, if there are any; otherwise bisimilar classes are
+    /// equal. Takes no memory; linear.
     pub fn first_pair(&self, classes: &Classes) -> Option<(TermId, TermId)>
         requires made { IsCoarsest classes.now self.now }
         ensures found { IfSome result (λ pair. IsApart classes.now self.now pair.0 pair.1) }

@@ -1,4 +1,4 @@
-//! What texts of values are made of, each written after what is there: names, numbers, and heads.
+//! The parts of texts of values, each appended to the text: names, numbers, and heads.
 ghost use Rattle.std.specs.Prelude.{◌≡◌, [], ◌∷◌, ◌++◌, OnOk, IfOk};
 ghost use Rattle.ct_sorts.specs.Declarations.{IsSort, IsConstructor};
 ghost use Rattle.ct_sexpr.specs.Written.{written, written_name};

@@ -1,4 +1,4 @@
-//! What holds of texts of values. A theorem is the contract of a function that does nothing.
+//! Theorems about texts of values. Each is the contract of a function that does nothing.
 ghost use Rattle.std.specs.Prelude.{◌≡◌, ◌↔◌, ℕ, List};
 ghost use Rattle.ct_sorts.specs.Declarations.{Declarations};
 ghost use Rattle.ct_sorts.specs.declared.ids.SortId.{SortId};

@@ -1,4 +1,4 @@
-//! The text of a value.
+//! Writes the text of a value.
 ghost use Rattle.std.specs.Prelude.{◌<◌, length, IfOk};
 ghost use Rattle.ct_values.specs.Fitting.{FitsGraph};
 ghost use Rattle.ct_value_text.specs.ValueText.{IsValueText};
@@ -9,8 +9,8 @@ use ct_sorts::Signature;
 use ct_values::{Graph, NodeId, ValueError, minimal};
 use std::alloc::Global;
 
-/// The text of the value at the root, for printing and for telling values apart: two nodes have one
-/// text exactly where they are equal values.
+/// The text of the value at the root, for printing and for distinguishing values: two nodes have the same text exactly
+/// if they are equal values.
 ///
 /// A finite tree of at most 1,000 nodes, each counted as often as it occurs, is written as a
 /// constructor term: `C` for a constructor without arguments, `(C v ..)` for one with arguments,

@@ -1,4 +1,4 @@
-//! The classes of the nodes that stand for finite trees, made from the leaves upward.
+//! The classes of the nodes that represent finite trees, made from the leaves upward.
 //!
 //! A node is settled once all of its children are: the number of its shape, which is its head over the classes of
 //! its children, then makes its class. What is never settled reaches a cycle, and stays in the class 0. A pass

@@ -39,7 +39,7 @@ impl Graph {
         Graph { nodes }
     }
 
-    /// One more node at the end, whose children are there already, and its number. An error changes nothing.
+    /// Appends a node whose children are in the graph, and returns its number. An error changes nothing.
     pub fn push(&mut self, node: Node) -> Result<NodeId, ValueError>
         requires below { HasChildrenBelow (length self.old) node }
         ensures ok { IfOk result (λ n. (n.0 ≡ length self.old) × (self.new ≡ self.old ++ node ∷ [])) }
@@ -50,7 +50,7 @@ impl Graph {
         Ok(NodeId(number as u64))
     }
 
-    /// These nodes at the end, in their order; their children may be among them. An error changes nothing.
+    /// Appends these nodes in order; their children may be among them. An error changes nothing.
     pub fn append(&mut self, mut nodes: Vec<Node>) -> Result<(), ValueError>
         requires below { All (HasChildrenBelow (length self.old + length nodes.items)) nodes.items }
         ensures ok { OnOk result (self.new ≡ self.old ++ nodes.items) }
@@ -104,7 +104,7 @@ impl Graph {
         })
     }
 
-    /// What stands at the top of this node.
+    /// The head of the node.
     pub fn head(&self, n: NodeId) -> Head
         requires within { n.0 < length self.now }
         ensures value { option_map node_head (slice_get self.now n.0) ≡ Some result }

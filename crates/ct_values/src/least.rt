@@ -1,4 +1,4 @@
-//! Numbers made into the least places that have them.
+//! Turns numbers into the least places that have them.
 //!
 //! A table holds for each number its least place. It is filled from the last place to the first, so that the least one is
 //! what stays. The time is linear in the places and the largest number.

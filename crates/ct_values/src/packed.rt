@@ -1,6 +1,5 @@
-//! Graphs of many nodes, side by side in three lists: the heads of the nodes, the children of all
-//! of them, those of one node after those of the node before it, and where the children of each
-//! node end. So a node takes no block of memory of its own.
+//! Graphs of many nodes in three parallel lists: the heads of the nodes; the children of all nodes, those of one node after
+//! those of the node before it; and where the children of each node end. So a node takes no block of memory of its own.
 ghost use Rattle.std.specs.Prelude.{◌≡◌, ◌-◌, ◌<◌, ◌≤◌, [], ◌∷◌, ◌++◌, length, take, drop, slice_get, option_map, Some, All, OnOk, OnErr, IfOk};
 ghost use Rattle.ct_values.specs.Graph.{IsClosed, node_head, node_children};
 ghost use Rattle.ct_values.specs.Packed.{node_of};
@@ -135,7 +134,7 @@ impl PackedGraph {
         self.nodes.len() as u64
     }
 
-    /// What stands at the top of this node.
+    /// The head of the node.
     pub fn head(&self, n: NodeId) -> Head
         requires within { n.0 < length self.now }
         ensures value { option_map node_head (slice_get self.now n.0) ≡ Some result }

@@ -1,4 +1,4 @@
-//! An order of the nodes of a graph in which children come before their parents, where no cycle stands against it.
+//! An order of the nodes of a graph in which children come before their parents, unless a cycle prevents it.
 //!
 //! From each node that was not met a walk goes down, depth first, from a stack: a node is met when it is taken from the
 //! stack for the first time, and has its turn when what was put onto the stack for it is done. The time and the memory are

@@ -1,4 +1,4 @@
-//! A graph with the representative of each value at hand.
+//! A graph in which the representative of each value is found quickly.
 //!
 //! Its nodes are put into classes of those that agree at every depth, once, as for equality. From then on a map from heads and classes of children to representatives
 //! tells the representative of a constructor over nodes, so that a new node costs a look-up
@@ -82,8 +82,8 @@ impl SharedGraph {
         NodeId(self.classes[n.0 as usize] as u64)
     }
 
-    /// The representative of the constructor over these nodes: one that is there, or a new one at
-    /// the end. An error changes nothing.
+    /// The representative of the constructor over these nodes: an existing one, or a new one at the end. An error
+    /// changes nothing.
     pub fn construct(&mut self, c: CtorId, children: NodeIds) -> Result<NodeId, ValueError>
         requires within { All (λ child. child.0 < length self.old) children }
         ensures first { IfOk result (IsRepresentative self.new (point self.new (node_value (nodes.Con c children)))) }

@@ -1,4 +1,4 @@
-//! What holds of graphs and values. A theorem is the contract of a function that does nothing.
+//! Theorems about graphs and values. Each is the contract of a function that does nothing.
 ghost use Rattle.std.specs.Prelude.{◌≡◌, ℕ, suc, ◌<◌, ◌≤◌, ◌⊎◌, Bool, true, List, [], ◌∷◌, length};
 ghost use Rattle.std.specs.Prelude.{◌++◌, ◌↔◌, Some, slice_get, IsTrue};
 ghost use Rattle.std.specs.Cmp.{IsEquivalence};

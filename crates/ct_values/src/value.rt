@@ -1,4 +1,4 @@
-//! What a value is, for whoever reads the code.
+//! What a value is, for readers of the code.
 
 use crate::node::NodeId;
 use ct_sorts::{CtorId, SortId};

@@ -1,4 +1,4 @@
-//! Counts the errors that the operating system answers.
+//! Counts the errors that the operating system reports.
 
 ghost use Rattle.std.specs.Prelude.{◌≡◌, ◌≤◌, ◌+◌, Ok, Err, min, IfOk, OnErr, OnOk};
 ghost use Rattle.ct_io.specs.Fault.{Rose, last_count};

@@ -28,7 +28,7 @@ impl<P: Print> Model for HostSink<P> {
 }
 
 impl<P: Print> HostSink<P> {
-    /// A sink that writes where this prints. Takes no memory.
+    /// A sink that writes where the runtime prints. Takes no memory.
     pub fn new(output: P) -> HostSink<P>
         ensures value { result ≡ 0 }
     {

@@ -35,8 +35,8 @@ impl Model for DeskInMemory {
 }
 
 impl DeskInMemory {
-    /// A desk with these files, of which the first counts where two have one name. The calls whose
-    /// numbers stand in `fail` fail, and a read gives at most `piece` bytes. Takes no memory.
+    /// A desk with these files; of two files with one name the first counts. The calls whose numbers stand in `fail`
+    /// fail, and a read gives at most `piece` bytes. Takes no memory.
     pub fn new(files: Vec<(Text, Vec<u8>)>, fail: Vec<u64>, piece: usize) -> DeskInMemory
         requires some { 0 < piece }
         ensures value { result ≡ record {
@@ -52,7 +52,7 @@ impl DeskInMemory {
         }
     }
 
-    /// How often `open` and `read` were called, and 2^64 - 1 where it was more often.
+    /// How often `open` and `read` were called, at most 2^64 - 1.
     pub fn calls(&self) -> u64
         ensures value { result ≡ call_count self.now.calls }
     {

@@ -26,7 +26,7 @@ impl Model for SteadyDesk {
 }
 
 impl SteadyDesk {
-    /// A desk with these files, of which the first counts where two have one name. Takes no memory.
+    /// A desk with these files; of two files with one name the first counts. Takes no memory.
     pub fn new(files: Vec<(Text, Vec<u8>)>) -> SteadyDesk
         ensures value { result ≡ unopened (contents files.items) }
     {
