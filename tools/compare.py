@@ -1,19 +1,23 @@
 #!/usr/bin/env python3
-"""Runs cosmt beside other solvers on the scripts of a folder, and writes what each answers as a table.
+"""Runs cosmt beside other solvers on a script or the scripts of a folder, and writes what each answers as a table.
 
     tools/compare.py bench/peers
 
-Each file .smt2 of the folder, and of the folders in it, is given to cosmt and to whatever of cvc5, cvc4 and z3 is installed. All
-get the same commands: those that ask for models, values, proofs and infos, and infos themselves, are left out, so that times are
-of verdicts alone. A row of the table is a script: of each solver its verdicts, one for each check-sat, its time of the processor in seconds and its memory
-in MiB. 'late' is said where --seconds were over, 'no answer' where a solver gave fewer verdicts than the script asks for: after an error,
-since what it answers then does not count, where it ended early, or where it does not support a check. The last column names who differs: from
-the script's `(set-info :status ..)`, which says what the next check is, or where there is none from another solver; and who gave no answer,
-so that the row could not be compared whole. The last row counts both.
+The file, or each file .smt2 of the folder and of the folders in it, is given to cosmt and to whichever of cvc5, cvc4 and z3 are
+installed. cosmt is the program that --cosmt names, else the variable COSMT, else crates/cosmt/out/cosmt. All get the same commands.
+Those that ask for models, values, proofs and infos are left out, so that times are of verdicts alone; so are infos themselves, and
+options but for `:global-declarations` and `:reproducible-resource-limit`.
 
-The table is Markdown. What is under way is told on the error output, where all takes more than two seconds, and which solvers are not there. It needs
-Python 3.9. The status is 0, or 1
-where verdicts differ, or 2 where there is no script or no solver. A row that could not be compared leaves it 0.
+A row of the table is a script: of each solver its verdicts, one for each check-sat, its processor time in seconds and its memory in
+MiB. 'late' means that the solver used up --seconds. 'no answer' means that it gave fewer verdicts than the script asks for: it ended
+early, or it answered an error or `unsupported`. What it answers after these is about another question and does not count. The last
+column names the solvers that differ from the script's `(set-info :status ..)`, which tells the verdict of the next check, or from each
+other if there is none. It also names those that gave no answer, so that the row could not be compared completely. The last row counts
+both.
+
+The table is Markdown. The error output says which solvers are missing, and shows the progress of a run of more than two seconds. It
+needs Python 3.9. The status is 1 if verdicts differ, 2 if there is no script or no solver, else 0. Rows that could not be compared do
+not change it.
 """
 
 import argparse
@@ -37,8 +41,11 @@ MARK = re.compile(r';[^\n\r]*|"[^"]*"|\|[^|]*\||[()]')
 WORD = re.compile(r"\(\s*([^\s()]*)")
 STATUS = re.compile(r"\(\s*set-info\s+:status\s+(\w+)\s*\)")
 
-Script = collections.namedtuple("Script", "name text checks levels assuming wanted")
-Run = collections.namedtuple("Run", "verdicts note ordered seconds mib")
+END = re.compile(r"^(\(error|unsupported$)", re.M)
+
+Script = collections.namedtuple("Script", "name text checks levels wanted")
+Run = collections.namedtuple("Run", "verdicts note seconds mib")
+OPTIONS = re.compile(r"\(\s*set-option\s+:(global-declarations|reproducible-resource-limit)\s")
 CHECKS = ("check-sat", "check-sat-assuming")
 NONE = "no answer"
 
@@ -71,17 +78,18 @@ def script_of(path, name):
         if word in CHECKS:
             wanted.append(status if status in DEFINITE else None)
             status = None
-        if not word.startswith("get-") and word not in ("echo", "set-info"):
+        if not word.startswith("get-") and word not in ("echo", "set-info") and (word != "set-option" or OPTIONS.match(command)):
             commands.append((word, command))
         if word == "exit":
             break
     levels = any(word in ("push", "pop", "reset-assertions", "reset") for word, _ in commands)
-    assuming = any(word == "check-sat-assuming" for word, _ in commands)
-    return Script(name, "\n".join(command for _, command in commands) + "\n", len(wanted), levels, assuming, wanted)
+    return Script(name, "\n".join(command for _, command in commands) + "\n", len(wanted), levels, wanted)
 
 
 def scripts_in(folder):
-    """The scripts of a folder and of those in it, by name."""
+    """The script of a file, or the scripts of a folder and of those in it, by name."""
+    if os.path.isfile(folder):
+        return [script_of(folder, os.path.basename(folder).removesuffix(".smt2"))]
     found = []
     for place, folders, files in os.walk(folder):
         folders.sort()
@@ -91,7 +99,7 @@ def scripts_in(folder):
 
 def solvers_of(options):
     """Names and command lines of the solvers that are there."""
-    cosmt = options.cosmt or (BUILT if os.path.exists(BUILT) else "cosmt")
+    cosmt = options.cosmt or os.environ.get("COSMT") or (BUILT if os.path.exists(BUILT) else "cosmt")
     peers = [name for name in options.peers.split(",") if name]
     commands = [("cosmt", [cosmt])] + [(name, [name, *FLAGS.get(name, [])]) for name in peers]
     commands += [(os.path.basename(words.split()[0]), words.split()) for words in options.solver]
@@ -123,15 +131,12 @@ def run_of(name, command, script, path, options):
         process.returncode = os.waitstatus_to_exitcode(ended)
         output.seek(0)
         text = output.read().decode("utf-8", "replace")
-    lines = text.split("(error", 1)[0].splitlines()
-    verdicts = [line for line in lines if line in VERDICTS]
+    verdicts = [line for line in END.split(text, maxsplit=1)[0].splitlines() if line in VERDICTS]
     took = used.ru_utime + used.ru_stime
     note = ""
     if len(verdicts) < script.checks:
         note = "late" if process.returncode < 0 and (took >= options.seconds or not timer.is_alive() and process.returncode == -9) else NONE
-    # Where a check among others was not supported, it is not known to which checks the verdicts belong.
-    ordered = not (note and script.assuming and "unsupported" in lines)
-    return Run(verdicts, note, ordered, took, used.ru_maxrss // 1024)
+    return Run(verdicts, note, took, used.ru_maxrss // 1024)
 
 
 class Progress:
@@ -160,7 +165,6 @@ class Progress:
 
 def remarks(script, runs):
     """The names of solvers with a verdict that is not the right one, or 'differ' where that is not known and two differ."""
-    runs = {name: run for name, run in runs.items() if run.ordered}
     wrong, differ = [], False
     for check, wanted in enumerate(script.wanted):
         given = {name: run.verdicts[check] for name, run in runs.items() if check < len(run.verdicts)}
@@ -235,14 +239,17 @@ def least_memory(options):
 
 def main():
     parser = argparse.ArgumentParser(description=__doc__, formatter_class=argparse.RawDescriptionHelpFormatter)
-    parser.add_argument("folder", help="the folder of the scripts")
-    parser.add_argument("--cosmt", metavar="PATH", help="the program (crates/cosmt/out/cosmt)")
+    parser.add_argument("folder", metavar="PATH", help="a script, or a folder of scripts")
+    parser.add_argument("--cosmt", metavar="PATH", help="the program (what COSMT names, or crates/cosmt/out/cosmt)")
     parser.add_argument("--peers", default="cvc5,cvc4,z3", metavar="NAMES", help="who is looked for beside it (cvc5,cvc4,z3)")
     parser.add_argument("--solver", action="append", default=[], metavar="COMMAND", help="a further solver, by its command line; may be given more than once")
     parser.add_argument("--seconds", type=int, default=10, metavar="N", help="the most that a run may take of the processor (10)")
     parser.add_argument("--clock", type=int, metavar="N", help="the most seconds on the clock of a run, where it sleeps or the machine is busy (six times --seconds)")
     parser.add_argument("--mib", type=int, default=4096, metavar="N", help="the most memory that a run may have (4096)")
     options = parser.parse_args()
+    if not os.path.exists(options.folder):
+        print(f"compare: there is no file and no folder {options.folder}", file=sys.stderr)
+        return 2
     scripts, solvers = scripts_in(options.folder), solvers_of(options)
     if not scripts or not solvers:
         print(f"compare: there is no {'solver' if scripts else 'script'}", file=sys.stderr)

@@ -3,17 +3,19 @@
 
     crates/cosmt/out/cosmt examples/streams.smt2 | tools/draw.py | dot -Tsvg > streams.svg
 
-The file, or standard input, holds what cosmt writes for a script, or one of its answers alone. One answer is drawn: the last
-one that is a model, values or a derivation, or the one that --answer names.
+The file, or the standard input, has what cosmt writes for a script, or one of its answers. One answer is drawn: the last model, list
+of values or derivation, or the one that --answer names. Anything else, for example a script, a core or a verdict, is refused.
 
-Of values and models each constructor is a row of boxes, its name and its fields; an arrow leads from a field to its value.
-Values that are equal are one row, so an infinite value is a cycle. A function is a table.
+In values and models each constructor is a row of boxes with its name and its fields, and an arrow leads from a field to its value.
+Equal values are one row, so an infinite value is a cycle. A function is a table.
 
-Of a derivation the lines are drawn that the empty clause rests on, from the assertions down: each with its number and its
-clause, a line of the theory with the equality steps that its closing rule rests on; steps that only turn an equation round are
-left out. docs/DERIVATIONS.md says what the steps are.
+A derivation is drawn from the assertions down, but only the lines that the empty clause rests on. Each line has its number and its
+clause. A theory line also has the equality steps that its closing rule rests on, without those that only swap the sides of an
+equation. A line that rests on no other is drawn in full beside the first line that uses it, and in short beside every later one. With
+--script SCRIPT, assertions have their labels. If there are more than --most lines, only the core is drawn: the assertions, the number
+of lines that follow from them, and the empty clause. docs/DERIVATIONS.md describes the steps.
 
-The status is 1 where there is nothing to draw, or more than --most rows or lines.
+The status is 1 if there is nothing to draw, or if there are more than --most rows or assertions.
 """
 
 import argparse
@@ -22,7 +24,6 @@ import re
 import sys
 
 TOKEN = re.compile(r'\s+|;[^\n\r]*|(?P<token>[()]|"(?:[^"]|"")*"|\|[^|]*\||[^\s()";|]+)')
-NO_VALUES = {"sat", "unsat", "unknown", "success", "unsupported"}
 LONGEST = 36
 LEFT = '<BR ALIGN="LEFT"/>'
 KINDS = {
@@ -62,24 +63,27 @@ def written(expr):
     return expr if isinstance(expr, str) else f"({' '.join(map(written, expr))})"
 
 
+def plain(head):
+    """The name of a constructor, which may stand with its sort as `(as C S)`."""
+    return head[1] if isinstance(head, list) and len(head) == 3 and head[0] == "as" else head
+
+
 def heads(expr):
     """The first items of the items of a list that are lists."""
     return {item[0] for item in expr if isinstance(item, list) and item and isinstance(item[0], str)}
 
 
 def kind(expr):
-    """What an answer is: derivation, model, values or value; else None."""
+    """What an answer is: derivation, model or values; else None."""
     if isinstance(expr, str):
-        return None if expr in NO_VALUES or expr[0] in '":' else "value"
-    if not expr or expr[0] == "error" or isinstance(expr[0], str) and expr[0].startswith(":"):
         return None
-    if isinstance(expr[0], str):
-        return "value"
+    if not expr or isinstance(expr[0], str):
+        return None
     if "cosmt-derivation" in heads(expr[:1]):
         return "derivation"
     if heads(expr) and heads(expr) <= {"define-fun", "@off"}:
         return "model"
-    return "values" if all(isinstance(item, list) and len(item) == 2 for item in expr) else None
+    return "values" if all(isinstance(item, list) and len(item) == 2 and item[0] != "not" for item in expr) else None
 
 
 def label(text):
@@ -117,13 +121,13 @@ class Values:
         """The number of the node of a value."""
         if isinstance(expr, str):
             return known[expr] if known and expr in known else self.node(expr)
-        if len(expr) == 3 and expr[0] == "as":
-            return self.node(expr[1])
         if len(expr) == 3 and expr[0] == "@graph":
             return self.graph(expr[1], expr[2])
-        if not expr or not isinstance(expr[0], str):
+        if isinstance(plain(expr), str):
+            return self.node(plain(expr))
+        if not expr or not isinstance(plain(expr[0]), str):
             raise Unfit(f"{written(expr)[:60]} is no value")
-        return self.node(expr[0], [self.add(field, known) for field in expr[1:]])
+        return self.node(plain(expr[0]), [self.add(field, known) for field in expr[1:]])
 
     def graph(self, nodes, root):
         """The number of the node of a value that is written as a graph."""
@@ -264,7 +268,7 @@ class Terms:
     def add(self, item):
         """Takes a term line."""
         word, rest = item[2], item[3:]
-        name = rest[0] if word in ("con", "app", "sel", "is") else {"iff": "="}.get(word, word)
+        name = plain(rest[0]) if word in ("con", "app", "sel", "is") else {"iff": "="}.get(word, word)
         below = [int(number) for number in (rest[1:] if word in ("con", "app", "sel", "is") else rest)]
         self.heads.append((word, name))
         self.below.append(below)
@@ -444,10 +448,10 @@ class Theory:
 class Derivation:
     """A derivation: its terms and its lines."""
 
-    def __init__(self, expr, steps):
+    def __init__(self, expr, steps, labels):
         self.terms = Terms([item for item in expr if item[0] == "t"])
         self.lines = {int(item[1]): (item[2], item[3:]) for item in expr if item[0] == "s"}
-        self.most_steps = steps
+        self.most_steps, self.labels = steps, labels
 
     def needs(self, number):
         """The lines that a line names."""
@@ -466,31 +470,98 @@ class Derivation:
                 waiting += self.needs(number)
         return sorted(found)
 
-    def node(self, number):
-        """The node of a line."""
+    def title(self, number):
+        """What a line is, and its colour."""
         clause, step = self.lines[number]
         title, colour = KINDS[step[0]]
         if step[0] == "gate":
             title = f"gate {step[1]}"
-        texts = self.terms.clause(clause)
-        shown = texts if len(texts) <= 8 else [*texts[:7], f"or {len(texts) - 7} literals more"]
+        if step[0] == "input" and int(step[1]) in self.labels:
+            title = f"assertion {self.labels[int(step[1])]}"
+        return title, colour if clause else "#ffd9d9"
+
+    def clause(self, number, most=8):
+        """The texts of the literals of a line, which are cut where there are many."""
+        texts = self.terms.clause(self.lines[number][0])
+        return texts if len(texts) <= most else [*texts[: most - 1], f"or {len(texts) - most + 1} literals more"]
+
+    def node(self, number):
+        """The node of a line."""
+        step, (title, colour) = self.lines[number][1], self.title(number)
         rows = [[(f"<B>{number}</B> {label(title)}", 'COLSPAN="3" ALIGN="LEFT"')]]
-        rows.append([("<BR/>or ".join(map(label, shown)), 'COLSPAN="3"')])
+        rows.append([("<BR/>or ".join(map(label, self.clause(number))), 'COLSPAN="3"')])
         if step[0] == "theory":
             for place, equation, reason in Theory(self.terms, step[1], step[2]).rows(self.most_steps):
                 lines = [f'{"".join(label(text) + LEFT for text in texts)}' for texts in ([place], equation, reason)]
                 rows.append([(text, 'ALIGN="LEFT" BALIGN="LEFT"') for text in lines])
-        return f"s{number} [shape=plain, label={table(rows, colour if clause else '#ffd9d9')}]"
+        return f"s{number} [shape=plain, label={table(rows, colour)}]"
+
+    def stub(self, number, user):
+        """The node of a line beside a further line that uses it, with the edge to this one."""
+        rows = [[f"<B>{number}</B>", "<BR/>or ".join(map(label, self.clause(number, 3)))]]
+        return [f"s{number}_{user} [shape=plain, label={table(rows, self.title(number)[1])}]", f"s{number}_{user} -> s{user}"]
+
+    def edges(self, core):
+        """The lines of text for the edges between the lines of the core, and for the nodes of those that are drawn more than once."""
+        drawn = set()
+        for user in core:
+            for number in dict.fromkeys(self.needs(user)):
+                if number in drawn and not self.needs(number):
+                    yield from self.stub(number, user)
+                else:
+                    yield f"s{number} -> s{user}"
+                drawn.add(number)
+
+    def summary(self, core, most):
+        """The core alone: a table of the assertions, the lines that follow from them, and the empty clause."""
+        inputs = [number for number in core if self.lines[number][1][0] == "input"]
+        if len(inputs) > most:
+            raise Unfit(f"the last line rests on {len(inputs)} assertions, and --most is {most}")
+        rows = []
+        for number in inputs:
+            texts = f"{self.title(number)[0]}, line {number}", *self.clause(number)
+            rows.append([(text, 'ALIGN="LEFT"') for text in (label(texts[0]), "<BR/>or ".join(map(label, texts[1:])))])
+        kinds = [self.lines[number][1][0] for number in core[:-1]]
+        others = [["lines that follow", str(len(kinds) - len(inputs))]]
+        others += [[label(KINDS[kind][0]), str(kinds.count(kind))] for kind in dict.fromkeys(kinds) if kind != "input"]
+        yield f"inputs [shape=plain, label={table(rows, KINDS['input'][1])}]"
+        yield f"others [shape=plain, label={table(others, KINDS['learn'][1])}]"
+        yield self.node(core[-1])
+        yield "inputs -> others"
+        yield f"others -> s{core[-1]}"
 
     def drawn(self, most):
         """The picture of the lines on which the last one rests."""
         core = self.core()
-        if len(core) > most:
-            raise Unfit(f"the last line rests on {len(core)} lines, and --most is {most}")
-        lines = [self.node(number) for number in core]
-        lines += [f"s{hint} -> s{number}" for number in core for hint in dict.fromkeys(self.needs(number))]
+        large = len(core) > most
+        lines = list(self.summary(core, most)) if large else [*map(self.node, core), *self.edges(core)]
         legend = [[label(f"#{term}"), (label(text), 'ALIGN="LEFT"')] for term, text in self.terms.legend()]
         return lines + ([f"legend [shape=plain, label={table(legend)}]"] if legend else [])
+
+
+def labels_of(expr, path):
+    """The labels of assertions of a script, by the numbers of their terms in a derivation."""
+    sys.dont_write_bytecode = True
+    import check_derivation as checker
+
+    with open(path, "rb") as file:
+        text = file.read()
+    try:
+        derivation = checker.read_derivation(written(expr).encode("utf-8", "surrogateescape"), text)
+        script, moved, labels = derivation.script, [], {}
+        for head, *under in list(script.terms.numbers):
+            moved.append(derivation.numbers[(head, *[moved[term] for term in under])])
+        for command in checker.expressions(text):
+            name = checker.labelled(command[1])[1] if command[:1] == [b"assert"] and len(command) == 2 else None
+            if type(script.symbols.get(name)) is checker.Definition:
+                term = script.terms.of_code(script.symbols[name].code)
+                if term in script.assertions:
+                    labels[moved[term]] = name.decode("utf-8", "surrogateescape")
+    except checker.ItemError as error:
+        raise Unfit(f"this derivation is none of {path}: {error.line}") from error
+    except (checker.TextError, checker.Refused):
+        pass
+    return labels
 
 
 # ---------------------------------------------------------------------------------------------------------------------
@@ -499,7 +570,7 @@ class Derivation:
 def chosen(text, wanted):
     """The answer that is drawn, with its kind."""
     answers = read(text)
-    fit = [(kind(answer), answer) for answer in answers if kind(answer) and (not isinstance(answer, str) or len(answers) == 1)]
+    fit = [(kind(answer), answer) for answer in answers if kind(answer)]
     if not fit:
         raise Unfit("there is no model, no value and no derivation")
     if wanted is not None and not 1 <= wanted <= len(fit):
@@ -512,11 +583,12 @@ def drawing(text, options):
     what, expr = chosen(text, options.answer)
     try:
         if what == "derivation":
-            lines = Derivation(expr, options.steps).drawn(options.most)
+            labels = labels_of(expr, options.script) if options.script else {}
+            lines = Derivation(expr, options.steps, labels).drawn(options.most)
         elif what == "model":
             lines = drawn_model(expr, options.most)
         else:
-            lines = drawn_pairs(expr if what == "values" else [("value", expr)], options.most)
+            lines = drawn_pairs(expr, options.most)
     except (IndexError, KeyError, ValueError, TypeError, RecursionError) as error:
         raise Unfit(f"this {what} departs from its form") from error
     style = ['graph [fontname="Helvetica"]', 'node [fontname="Helvetica", fontsize=11]', 'edge [color="#555555"]']
@@ -527,16 +599,17 @@ def main():
     parser = argparse.ArgumentParser(description=__doc__, formatter_class=argparse.RawDescriptionHelpFormatter)
     parser.add_argument("file", nargs="?", help="what cosmt wrote; standard input where it is left out")
     parser.add_argument("--answer", type=int, metavar="N", help="draw the N-th of the answers that can be drawn, from 1")
+    parser.add_argument("--script", metavar="FILE", help="the script of a derivation, for the labels of its assertions")
     parser.add_argument("--most", type=int, default=200, metavar="N", help="the most rows or lines that are drawn (200)")
     parser.add_argument("--steps", type=int, default=24, metavar="N", help="the most equality steps of a line that are drawn (24)")
     options = parser.parse_args()
     sys.setrecursionlimit(20_000)
     try:
         if options.file:
-            with open(options.file, encoding="utf-8", errors="replace") as file:
+            with open(options.file, encoding="utf-8", errors="surrogateescape") as file:
                 text = file.read()
         else:
-            text = sys.stdin.buffer.read().decode("utf-8", "replace")
+            text = sys.stdin.buffer.read().decode("utf-8", "surrogateescape")
         sys.stdout.write(drawing(text, options))
     except (Unfit, OSError) as error:
         print(f"draw: {error}", file=sys.stderr)

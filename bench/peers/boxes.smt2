@@ -1,6 +1,6 @@
-; Boxes that hold a clock each.
-; unsat: there is one clock, so there is one box.
-; cvc5 1.0.3 answers sat, and does not end where a value is asked for; CVC4 1.8 does not end.
+; Boxes that each hold a clock.
+; unsat: there is only one clock, so there is only one box.
+; cvc5 1.0.3 answers sat, and does not end when it is asked for a value; CVC4 1.8 does not end.
 (set-logic ALL)
 (set-info :status unsat)
 (declare-codatatype Clock ((tick (rest Clock))))

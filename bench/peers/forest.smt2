@@ -1,6 +1,6 @@
-; Trees each of which has a list of two trees, over two codatatypes that name one another.
+; Trees that each have a list of two trees, over two mutually recursive codatatypes.
 ; unsat: every node of s and of t has two children, for ever.
-; cvc5 1.0.3 and CVC4 1.8 answer sat; the model of cvc5 gives the two one value.
+; cvc5 1.0.3 and CVC4 1.8 answer sat; the model of cvc5 gives both the same value.
 (set-logic ALL)
 (set-info :status unsat)
 (declare-codatatypes ((Tree 0) (Forest 0)) (

@@ -1,6 +1,6 @@
 ; Three processes, each of which forks into two of them.
-; unsat: whatever way is followed from x and from y, both go on forking for ever, so x and y are one infinite tree.
-; cvc5 1.0.3 and CVC4 1.8 answer sat; the model of cvc5 gives the two one value.
+; unsat: on every path from x and from y the processes go on forking for ever, so x and y are the same infinite tree.
+; cvc5 1.0.3 and CVC4 1.8 answer sat; the model of cvc5 gives both the same value.
 (set-logic ALL)
 (set-info :status unsat)
 (declare-codatatype Process ((fork (left Process) (right Process)) (stop)))

@@ -1,6 +1,6 @@
-; A function of two trees that are one.
-; unsat: x and y are one tree, so f has one result for both.
-; cvc5 1.0.3 and CVC4 1.8 answer sat; the model of cvc5 gives the two one value.
+; A function of two trees that are equal.
+; unsat: x and y are the same tree, so f has the same result for both.
+; cvc5 1.0.3 and CVC4 1.8 answer sat; the model of cvc5 gives both the same value.
 (set-logic ALL)
 (set-info :status unsat)
 (declare-codatatype Tree ((node (left Tree) (right Tree)) (leaf)))

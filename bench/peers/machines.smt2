@@ -1,6 +1,6 @@
 ; Three machines: each takes a coin, then its user has a choice between tea and coffee, and then another of the machines goes on.
-; unsat: which of the machines goes on makes no difference that anybody sees.
-; cvc5 1.0.3 and CVC4 1.8 answer sat; the model of cvc5 gives the two one value.
+; unsat: no observer can tell which of the machines goes on.
+; cvc5 1.0.3 and CVC4 1.8 answer sat; the model of cvc5 gives both the same value.
 (set-logic ALL)
 (set-info :status unsat)
 (declare-datatype Action ((coin) (tea) (coffee)))

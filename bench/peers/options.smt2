@@ -1,5 +1,5 @@
 ; Three options of a clock, all different.
-; unsat: there is one clock, so there are two options of it.
+; unsat: there is only one clock, so there are only two options of it.
 ; cvc5 1.0.3 answers sat; CVC4 1.8 does not end.
 (set-logic ALL)
 (set-info :status unsat)

@@ -1,6 +1,6 @@
-; The same trees, told by what is on the left and on the right of each, without any equation of a constructor.
-; unsat: a tree that is a node is built of its two sides, and none of these trees ever comes to a leaf.
-; cvc5 1.0.3 and CVC4 1.8 answer sat; the model of cvc5 gives the two one value.
+; The same trees, described by the left and right side of each, without any equation with a constructor.
+; unsat: a tree that is a node is built from its two sides, and none of these trees ever reaches a leaf.
+; cvc5 1.0.3 and CVC4 1.8 answer sat; the model of cvc5 gives both the same value.
 (set-logic ALL)
 (set-info :status unsat)
 (declare-codatatype Tree ((node (left Tree) (right Tree)) (leaf)))
