@@ -1,6 +1,6 @@
-"""Families of scripts for measuring the search: each a function of a size that gives the commands of a script.
+"""Families of scripts for measuring the search. Each is a function from a size to the commands of a script.
 
-Where the answer is known for every size, it stands beside the family. `bench/search` runs them.
+If the answer is known for every size, it is beside the family. `bench/search` runs them.
 """
 
 import os
@@ -11,6 +11,26 @@ LIST = "(declare-datatype List ((nil) (cons (head E) (tail List))))"
 STREAM = "(declare-codatatype Stream ((scons (shead E) (stail Stream))))"
 PROCESS = "(declare-codatatype P ((ch (l P) (r P)) (stop)))"
 U = "(declare-sort U 0)"
+# Differences of lists of sixteen numbers that a polynomial in 2^64 divided by the golden ratio takes to zero modulo 2^64: the lists that
+# are sums of them had one digest when the digest of a list was such a polynomial.
+DIFFERENCES = [
+    (-2, 5, -1, -8, 3, -11, 5, -3, -8, -2, -11, 5, 17, 1, 0, 6),
+    (-12, 8, -5, 0, 2, -15, 9, -2, 12, 7, -6, 4, 3, 3, 0, -4),
+    (9, 4, 3, -4, 11, 3, 3, 1, -7, -3, 13, -5, -9, -6, 1, 2),
+    (3, -5, 4, 4, -6, 10, -8, -2, -9, -7, -1, 1, -1, 5, -10, -10),
+    (-14, 0, -2, 7, 2, -1, 6, 2, 0, 5, -14, -1, 3, 4, 8, -1),
+    (0, 2, -4, 1, 9, 3, -6, -3, -9, 6, 2, 4, 6, -12, 5, 8),
+    (0, -1, -4, -7, -2, 12, -14, -4, -2, 0, -2, 0, 1, 5, -4, -6),
+    (-3, -6, -2, -16, 6, -8, 6, 3, 10, -1, -10, 8, -2, 3, -3, -1),
+    (-4, 0, 3, -1, 3, -10, -6, 4, 5, -4, 5, -8, 7, 9, 2, -1),
+    (-1, -7, 7, 1, -10, -6, 3, 11, 4, 3, 5, -5, 8, 0, 6, -3),
+    (1, 2, 4, -7, 4, 3, -5, 2, 3, 9, -3, -4, 8, -5, -2, 6),
+    (9, 3, -2, 7, -8, 4, 0, 7, -1, -12, 5, 1, -7, 6, -5, -3),
+    (2, -7, 8, 1, -3, 0, -4, 0, 4, 2, -1, 0, -10, -8, -5, -7),
+    (-3, -4, 12, -3, 2, -3, 4, 8, -1, -4, -2, 4, 4, 4, 4, 2),
+    (-9, 7, 3, -5, -9, -5, 8, -4, 2, -6, -3, -1, 10, 4, -4, 4),
+    (-4, -5, 1, 0, 14, 7, -2, -7, 4, -8, -7, 6, 11, -7, 7, 6),
+]
 
 
 def constants(names, sort):
@@ -270,6 +290,89 @@ def interpreter(n):
     parts += constants(["e"], "X")
     return parts + [f"(assert (= (eval{n} e) tt))", f"(assert (= (eval{n} (neg e)) tt))"]
 
+# Families whose scripts need no search: what they take is the floor of a check.
+
+
+def shapes(n):
+    """n shapes in clauses, of which the rectangles share one list of which nothing is known."""
+    parts = [U, "(declare-datatype L ((nil) (cons (hd U) (tl L))))", "(declare-datatype R ((rect (w L) (h L)) (disc (r L))))"]
+    parts += constants(["z"], "L") + constants(named("s", n), "R") + constants(named("q", n), "Bool")
+    for i in range(n):
+        parts += [f"(assert (or q{i} ((_ is rect) s{i})))", f"(assert (or (not q{i}) ((_ is disc) s{i})))"]
+        parts += [f"(assert (=> ((_ is rect) s{i}) (= (w s{i}) z)))", f"(assert (=> q{i} (= (r s{i}) (cons (hd z) z))))"]
+    return parts
+
+
+def lights(n):
+    """Two traffic lights that change n times as a rule says, and at some time are both green."""
+    parts = ["(declare-datatype C ((R) (G) (Y)))", "(declare-datatype S ((st (ns C) (ew C) (turn Bool))))"]
+    parts.append(
+        "(define-fun step ((s S)) S (ite (turn s) (match (ns s) ((R (st G (ew s) true)) (G (st Y (ew s) true)) (Y (st R (ew s) false))))"
+        " (match (ew s) ((R (st (ns s) G false)) (G (st (ns s) Y false)) (Y (st (ns s) R true))))))"
+    )
+    parts.append("(define-fun bad ((s S)) Bool (and (= (ns s) G) (= (ew s) G)))")
+    parts += constants(named("s", n + 1), "S") + ["(assert (= s0 (st R R true)))"]
+    parts += [f"(assert (= s{i + 1} (step s{i})))" for i in range(n)]
+    return parts + [f"(assert (or {' '.join(f'(bad s{i})' for i in range(n + 1))}))"]
+
+
+def implied_equations(n):
+    """n constants, each f of the one before, that equal a fixed point of f; of each that is asked."""
+    parts = [U, "(declare-fun f (U) U)", "(declare-fun p (Bool) Bool)"] + constants(["a"] + named("x", n), "U")
+    parts += ["(assert (= (f a) a))", "(assert (= x0 a))"] + [f"(assert (= {y} (f {x})))" for x, y in zip(named("x", n), named("x", n)[1:])]
+    return parts + [f"(assert (or (not (= {x} a)) (p (= {x} a))))" for x in named("x", n)]
+
+
+def colliding_lists(n):
+    """n applications of a predicate to sixteen constants, whose lists of arguments had one digest when it was a polynomial."""
+    used = DIFFERENCES[: max(1, (n - 1).bit_length())]
+    start = [-sum(min(0, row[i]) for row in used) for i in range(16)]
+    size = max(first + sum(max(0, row[i]) for row in used) for i, first in enumerate(start)) + 1
+    c = named("c", size)
+    lists = [[start[i] + sum(row[i] for k, row in enumerate(used) if j >> k & 1) for i in range(16)] for j in range(n)]
+    functions = [f"(declare-fun {f} ({' '.join(['U'] * count)}) Bool)" for f, count in (("all", size), ("f", 16))]
+    return [U] + constants(c, "U") + functions + [f"(assert (all {' '.join(c)}))"] + [f"(assert (f {' '.join(c[t] for t in some)}))" for some in lists]
+
+def distincts(n):
+    """Two lists of n constants, all different in each."""
+    x, y = named("x", n), named("y", n)
+    return [U] + constants(x + y, "U") + [f"(assert (distinct {' '.join(some)}))" for some in (x, y)]
+
+
+def block(n):
+    """A block of n codatatypes in a ring, and one of n with a parameter, each of ten pairs of that and of pairs over the first ones."""
+    rings, wide = named("A", n), named("B", n)
+    ring = " ".join(f"((a{i} (al{i} {rings[(i + 1) % n]})))" for i in range(n))
+    pairs = lambda i: " ".join(f"(bf{i}_{j} (P X (P {rings[i]} {rings[37 * j % n]})))" for j in range(10))
+    over = " ".join(f"(par (X) ((b{i} {pairs(i)})))" for i in range(n))
+    parts = ["(declare-codatatypes ((P 2)) ((par (X Y) ((p (pf X) (ps Y))))))"]
+    return parts + [f"(declare-codatatypes ({' '.join(f'({a} {k})' for a in some)}) ({text}))" for some, k, text in ((rings, 0, ring), (wide, 1, over))]
+
+
+def records(n):
+    """n records, each of two of the one before."""
+    return ["(declare-datatype D0 ((c0)))"] + [f"(declare-datatype D{i} ((c{i} (a{i} D{i - 1}) (b{i} D{i - 1}))))" for i in range(1, n)]
+
+
+def enumeration(n):
+    """An enumeration of n constructors, of which a constant is not one."""
+    return [f"(declare-datatype E ({' '.join(f'({k})' for k in named('k', n))}))", "(declare-const x E)", "(assert (not ((_ is k0) x)))"]
+
+
+def cycle(n):
+    """n lists, each a cell over the next and the last over the first."""
+    parts = [U, "(declare-datatype L ((nil) (cons (hd U) (tl L))))"] + constants(named("x", n), "L") + constants(named("u", n), "U")
+    return parts + [f"(assert (= x{i} (cons u{i} x{(i + 1) % n})))" for i in range(n)]
+
+
+def new_instances(n):
+    """n rounds, each with an instance of a pair that was not there before."""
+    side = int(n**0.5) + 1
+    parts = ["(declare-datatypes ((P 2)) ((par (X Y) ((mk (fst X) (snd Y))))))"] + [f"(declare-sort {s} 0)" for s in named("S", side)]
+    for i in range(n):
+        parts += ["(push 1)", f"(declare-const v (P S{i // side} S{i % side}))", "(check-sat)", "(pop 1)"]
+    return parts
+
 
 def written(folder, make, size, *more):
     """The path of a new script of this size, which checks and then has these commands too."""
@@ -306,4 +409,18 @@ FAMILIES = [
     ("sudoku", sudoku, 2, "sat", False),
     ("graph colouring", colouring, 10, None, False),
     ("interpreter", interpreter, 1, None, False),
+]
+
+# The same of those that need no search.
+PLAIN = [
+    ("shapes over one list", shapes, 250, "sat", True),
+    ("lights", lights, 20, "unsat", True),
+    ("chain of implied equations", implied_equations, 250, "sat", True),
+    ("two distinct", distincts, 20, "sat", True),
+    ("lists that collided", colliding_lists, 512, "sat", True),
+    ("blocks of sorts", block, 25, "sat", True),
+    ("records over records", records, 250, "sat", True),
+    ("enumeration", enumeration, 1000, "sat", True),
+    ("cycle of lists", cycle, 625, "unsat", True),
+    ("rounds of instances", new_instances, 225, "sat", True),
 ]

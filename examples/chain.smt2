@@ -1,4 +1,4 @@
-; Look-ups in a row, as a verifier writes them: each goes on with what the last one found, or finds nothing.
+; A chain of look-ups, as a verifier writes them: each uses what the last one found, or finds nothing.
 (declare-sort Key 0)
 (declare-datatype Option ((none) (some (value Key))))
 (declare-fun parent (Key) Option)
@@ -8,7 +8,7 @@
 (assert ((_ is some) third))
 (check-sat)
 (get-value (((_ is some) (parent k)) ((_ is some) (then (parent k))) (= third (parent (value (then (parent k)))))))
-; Where the parent of k is k, every look-up finds it.
+; If the parent of k is k, every look-up finds it.
 (assert (= (parent k) (some k)))
 (check-sat)
 (get-value ((= third (some k))))

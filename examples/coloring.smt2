@@ -1,4 +1,4 @@
-; The mainland of Australia in three colors: regions with a common border have two.
+; The mainland of Australia in three colors: regions with a common border have different colors.
 (declare-datatype Region ((wa) (nt) (sa) (qld) (nsw) (vic)))
 (declare-datatype Color ((red) (green) (blue)))
 (declare-fun color (Region) Color)
@@ -15,6 +15,6 @@
 (assert (= (color nt) green))
 (check-sat)
 (get-value ((color sa) (color qld) (color nsw) (color vic)))
-; Two colors are not enough: none can be left out.
+; Two colors are not enough: no color can be left out.
 (assert (exists ((c Color)) (forall ((x Region)) (distinct (color x) c))))
 (check-sat)

@@ -1,4 +1,4 @@
-; Trees whose children are a list of trees. No tree lies below itself, by however many steps.
+; Trees whose children are a list of trees. No tree lies below itself, at any depth.
 (declare-sort Label 0)
 (declare-datatypes ((Tree 0) (Forest 0)) (
     ((node (label Label) (children Forest)))
@@ -8,10 +8,10 @@
 (declare-const l Label)
 (assert (= (children t) (plant (node l f) empty)))
 (check-sat)
-; The forest below t is what follows in f: that can be, as long as f is empty and has nothing that follows.
+; The rest of f is the forest below t. That is possible if f is empty: then the model chooses what `others` gives.
 (assert (= (others f) (children t)))
 (check-sat)
 (get-value (f))
-; Else t has a child over f, and f goes on with that child.
+; If f is not empty, t has a child over f, and the rest of f contains that child.
 (assert ((_ is plant) f))
 (check-sat)

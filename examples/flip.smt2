@@ -1,4 +1,4 @@
-; A function on streams, of which an equation is known at two streams: it flips the head and goes on with the rest.
+; A function on streams that flips the head and continues with the rest. Its equation is given at two streams.
 (declare-datatype Bit ((zero) (one)))
 (declare-codatatype Stream ((cell (bit Bit) (rest Stream))))
 (declare-fun flip (Stream) Stream)
@@ -13,6 +13,6 @@
 (assert (unfolds (rest s)))
 (check-sat)
 (get-value ((flip s) (rest s)))
-; Two streams that agree everywhere are one.
+; Two streams that agree everywhere are equal.
 (assert (distinct (flip s) (rest s)))
 (check-sat)

@@ -1,4 +1,4 @@
-; Three processes, each of which forks into two of them, for ever. Nobody who watches can tell one from another.
+; Three processes that fork for ever, each into two of them. No observer can tell them apart.
 (declare-codatatype Process ((fork (left Process) (right Process)) (stop)))
 (declare-const x Process)
 (declare-const y Process)

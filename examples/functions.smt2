@@ -1,4 +1,4 @@
-; A function of which nothing is known, but that equal arguments give equal results.
+; An uninterpreted function: all that is known is that equal arguments give equal results.
 (declare-sort Person 0)
 (declare-fun mother (Person) Person)
 (declare-const ann Person)

@@ -1,5 +1,5 @@
-; Names that are declared at a level stay when it goes, and its assertions do not: for a program that
-; declares what it needs when it needs it. The option comes before all declarations.
+; Names that are declared at a level stay when it is removed, but its assertions do not. This suits a program that
+; declares names as it needs them. The option comes before all declarations.
 (set-option :global-declarations true)
 (declare-datatype Color ((red) (green)))
 (push)
@@ -12,12 +12,12 @@
 (assert (= (other c) red))
 (check-sat)
 (get-value (c))
-; No assertion is left, and the names still are.
+; No assertion is left, but the names are.
 (reset-assertions)
 (assert (not (= c green)))
 (check-sat)
 (get-value (c))
-; After this all is as at the start.
+; After this everything is as at the start.
 (reset)
 (declare-datatype Color ((blue)))
 (declare-const c Color)

@@ -24,7 +24,7 @@
 (check-sat)
 (pop 1)
 
-; A goal that does not hold: zip (x # xs) (y # ys) = (x, y) # []. The model gives a list that is longer.
+; A goal that does not hold: zip (x # xs) (y # ys) = (x, y) # []. The model gives a longer list.
 (assert (not (= (zip$ (cons$ x$ xs$) (cons$ y$ ys$)) (cons$ (pair$ x$ y$) (as nil$ (List$ (Prod$ A$ B$)))))))
 (check-sat)
 (get-value (((_ is nil$) xs$) ((_ is nil$) (zip$ xs$ ys$))))

@@ -14,13 +14,13 @@
 (assert (! (= (reverse (append xs nil)) (append (reverse nil) (reverse xs))) :named reverse-append))
 (assert (! (= (reverse (cons x nil)) (cons x nil)) :named reverse-one))
 (assert (! (= (reverse (reverse (append xs nil))) (append xs nil)) :named reverse-twice))
-; The goal: a list that is reversed twice with nothing behind it is the list, and stays so behind an item.
+; The goal: a list with nothing appended, reversed twice, is the list itself, also after an item.
 (push)
 (assert (! (not (= (cons x (reverse (reverse (append xs nil)))) (cons x xs))) :named goal))
 (check-sat)
 (get-unsat-core)
 (pop)
-; The library alone holds together; a label is a definition, so what is left without a lemma can be asked too.
+; The library by itself is consistent. A label is a definition, so one can also ask what follows without a lemma.
 (check-sat)
 (check-sat-assuming (append-nil (not nil-behind)))
 (get-unsat-core)

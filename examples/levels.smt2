@@ -1,5 +1,5 @@
-; A verifier's obligations, one after the other. What holds for all of them stands at the outermost
-; level. Of each obligation the opposite is asserted, at a level of its own that goes when it is done.
+; A verifier's obligations, one after another. What holds for all of them is asserted at the outermost
+; level. The negation of each obligation is asserted at its own level, which is removed afterwards.
 (declare-sort Item 0)
 (declare-datatype Stack ((empty) (put (top Item) (rest Stack))))
 (declare-const before Stack)
@@ -12,7 +12,7 @@
 (check-sat)
 (pop)
 
-; Where the stack was not empty, what lay below its top lies below the two of them.
+; If the stack was not empty, the part below its top is now below the top two.
 (push)
 (assert ((_ is put) before))
 (push)

@@ -1,4 +1,4 @@
-; What is stored under a key: a value, or none.
+; What is stored under a key: a value, or nothing.
 (declare-sort Key 0)
 (declare-datatype Color ((red) (green) (blue)))
 (declare-datatype Option ((none) (some (value Color))))

@@ -1,4 +1,4 @@
-; Commands without an answer of their own answer `success` once that is asked for.
+; Commands without an answer of their own answer `success` once the option is set.
 (set-option :print-success true)
 (declare-const p Bool)
 (declare-const q Bool)
@@ -6,7 +6,7 @@
 (declare-const s Bool)
 (assert (or p q))
 (assert (or r s))
-; One decision does not suffice for this, two do.
+; One decision is not enough for this; two are.
 (set-option :reproducible-resource-limit 1)
 (check-sat)
 (get-info :reason-unknown)
@@ -14,8 +14,8 @@
 (check-sat)
 (get-option :reproducible-resource-limit)
 (set-option :print-success false)
-; What the solver does not have is answered, and changes nothing: the model of the last check stands.
-(set-option :random-seed 42)
+; What the solver does not support is answered and changes nothing: the last model stays available.
+(set-option :timeout 10000)
 (get-assignment)
 (echo "p or q, and r or s:")
 (get-value ((and (or p q) (or r s))))

@@ -1,5 +1,5 @@
-; What a test generator asks: an input that takes a path through a program, and then another path. The program handles a
-; request by the state that a connection is in.
+; A test generator's question: an input that takes a path through a program, and then another path. How the program
+; handles a request depends on the state of a connection.
 (declare-sort Name 0)
 (declare-datatype Request ((open (user Name)) (send (to Name)) (close)))
 (declare-datatype State ((idle) (busy (owner Name) (last Request))))
@@ -10,7 +10,7 @@
 (declare-const a Request)
 (declare-const b Request)
 (define-const after State (handle (handle idle a) b))
-; The path: in the end the connection is busy, and the second request sends to another than its owner.
+; The path: in the end the connection is busy, and the second request sends to somebody other than its owner.
 (assert ((_ is busy) after))
 (assert ((_ is send) b))
 (assert (distinct (to b) (owner after)))

@@ -1,4 +1,4 @@
-; Two machines that go on for ever. Both take a coin first; then one gives tea, and the other lets its user choose.
+; Two machines that go on for ever. Both take a coin first. Then one gives tea, and the other lets its user choose.
 (declare-datatype Action ((coin) (tea) (coffee)))
 (declare-codatatype Process ((stop) (act (action Action) (next Process)) (choose (one Process) (other Process))))
 (declare-const p Process)
@@ -7,6 +7,6 @@
 (assert (= q (act coin (choose (act tea q) (act coffee q)))))
 (check-sat)
 (get-value (p (= (action p) (action q)) (= (next (one (next q))) q) (= p q)))
-; They differ in every model, and so does what each of them does after the coin.
+; They differ in every model, and so do their continuations after the coin.
 (assert (= (next p) (next q)))
 (check-sat)

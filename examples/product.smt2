@@ -21,7 +21,7 @@
 (check-sat-assuming (camper sun tow-bar))
 (get-unsat-assumptions)
 (get-unsat-core)
-; With the engine chosen before, one feature alone may be too much.
+; Once the engine is chosen, a single feature may be too much.
 (push)
 (assert (= engine petrol))
 (check-sat-assuming (tow-bar camper))

@@ -1,10 +1,10 @@
-; Codatatypes of a parameter: streams and possibly infinite lists, over any sort of their elements.
+; Codatatypes with a parameter: streams and possibly infinite lists, with elements of any sort.
 (set-logic ALL)
 (declare-datatype Bit ((zero) (one)))
 (declare-codatatypes ((Stream 1)) ((par (X) ((scons (shead X) (stail (Stream X)))))))
 (declare-codatatypes ((LList 1)) ((par (X) ((lnil) (lcons (lhead X) (ltail (LList X)))))))
 
-; Two streams of bits that satisfy one equation are one stream.
+; Two streams of bits that satisfy the same equation are equal.
 (push 1)
 (declare-const s (Stream Bit))
 (declare-const t (Stream Bit))
@@ -14,7 +14,7 @@
 (check-sat)
 (pop 1)
 
-; A stream of streams, each of which begins with its number of ones, and then the stream itself again.
+; A stream of streams: first the stream of ones, and then the stream itself again.
 (declare-const rows (Stream (Stream Bit)))
 (declare-const ones (Stream Bit))
 (assert (= ones (scons one ones)))
@@ -23,7 +23,7 @@
 (get-value (ones))
 (get-value ((shead (stail rows))))
 
-; An infinite list of optional bits that is no finite one.
+; An infinite list of optional bits.
 (declare-datatypes ((Maybe 1)) ((par (X) ((nothing) (just (the X))))))
 (declare-const l (LList (Maybe Bit)))
 (assert (= (ltail l) l))

@@ -6,7 +6,7 @@
 (declare-fun drink (Person) Drink)
 (assert (distinct (house ann) (house bob) (house cay)))
 (assert (distinct (drink ann) (drink bob) (drink cay)))
-; In the green house there is coffee, Bob has tea, and Cay lives in the red house.
+; There is coffee in the green house, Bob has tea, and Cay lives in the red house.
 (define-fun fits ((p Person)) Bool (=> (= (house p) green) (= (drink p) coffee)))
 (assert (and (fits ann) (fits bob) (fits cay)))
 (assert (= (drink bob) tea))

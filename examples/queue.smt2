@@ -1,4 +1,4 @@
-; A queue ends, and a run of days does not: the model shows both. LANGUAGE, Models audited, says how it is stored and audited.
+; A queue ends, and a run of days does not: the model shows both. LANGUAGE, Auditing a model, says how to store and audit it.
 (declare-datatypes ((Job 0) (Queue 0)) (((print) (scan)) ((empty) (job (first Job) (rest Queue)))))
 (declare-codatatype Day ((day (work Queue) (next Day))))
 (declare-const q Queue)

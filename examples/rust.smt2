@@ -1,4 +1,4 @@
-; A verification condition as a verifier of Rust would write it: `Option`, `Result` and a list for `Vec`, nested in one another, and a
+; A verification condition as a verifier of Rust would write it: nested `Option`, `Result` and a list for `Vec`, and a
 ; function that pops the first inner list of `Vec<Option<Vec<E>>>`.
 (set-logic ALL)
 (declare-datatype E ((a) (b) (c)))

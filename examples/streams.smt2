@@ -1,9 +1,9 @@
-; Streams never end: each is a head and a tail. Two streams that agree everywhere are one.
+; Streams never end: each is a head and a tail. Two streams that agree everywhere are equal.
 (declare-datatype Color ((red) (green)))
 (declare-codatatype Stream ((more (first Color) (rest Stream))))
 (declare-const s Stream)
 (declare-const t Stream)
-; s is red for ever, and t is said to be so two at a time.
+; s is red for ever, and so is t, described two elements at a time.
 (assert (= s (more red s)))
 (assert (= t (more red (more red t))))
 (check-sat)

@@ -1,4 +1,4 @@
-; Everything is read by the rules of the language: names between bars, strings, numbers. The last
+; Everything is read by the rules of the language: quoted symbols, strings, numbers. The last
 ; command is never closed.
 (declare-const p Bool)
 (assert p)

@@ -1,5 +1,5 @@
-; A proof obligation as Why3 would write it: options and tuples of its library, a synonym for the type of a map's bindings, and a
-; program that looks a key up in an association list of two bindings.
+; A proof obligation as Why3 would write it: options and tuples of its library, a synonym for the type of a map's bindings, and
+; a program that looks up a key in an association list of two bindings.
 (set-logic ALL)
 (declare-sort key 0)
 (declare-sort value 0)
@@ -32,7 +32,7 @@
 (check-sat)
 (pop 1)
 
-; What is found is the value beside the last binding of the key only where the keys differ.
+; The result is the value of the key's last binding only if the keys differ.
 (assert (not (= (find m) (Some v))))
 (check-sat)
 (get-value ((= k k1) (= (find m) (Some v1)) (= v v1)))

@@ -3,8 +3,9 @@
 
 usage: tools/check_derivation.py PROOF SCRIPT
 
-PROOF holds the text that `get-proof` wrote (docs/DERIVATIONS.md), SCRIPT the script (docs/LANGUAGE.md). One line is written, and the
-status is that of `cosmt --audit PROOF SCRIPT` (LANGUAGE, Audits):
+PROOF holds the text that `get-proof` wrote (docs/DERIVATIONS.md), SCRIPT the script (docs/LANGUAGE.md). A first line `unsat` in PROOF, as
+it stands before that text where the output of the solver was saved, is passed over. One line is written, and the status is that of
+`cosmt --audit PROOF SCRIPT` (LANGUAGE, Audits), which takes no such line:
 
     verified                         0  no interpretation makes the assertions of that check all true
     rejected N                       6  line N of the derivation is the first that is not accepted
@@ -44,6 +45,7 @@ MOST_TEXT = 65536
 MOST_VALUES = 4096
 WORD_BOUND = 2**64
 NUMERAL_BOUND = 2**128
+VERDICT = re.compile(rb"\Aunsat\r?\n")
 
 
 # ---------------------------------------------------------------------------------------------------------------------
@@ -425,8 +427,20 @@ class Elaboration:
             nodes = yield self.lists(text[1:])
             return self.operator(name, nodes)
         symbol = self.script.symbols.get(name)
+        if symbol is None and name.startswith(b"is-"):
+            return (yield self.tested(name[3:], text[1:]))
         require(symbol is not None and len(symbol.arguments) == len(text) - 1)
         return self.applied(symbol, (yield self.lists(text[1:])))
+
+    def tested(self, name, texts):
+        """The tester of the constructor of the name, over the one term."""
+        symbol = self.script.symbols.get(name)
+        require(type(symbol) in (Constructor, GenericConstructor) and symbol not in self.script.bool.constructors)
+        require(len(texts) == 1)
+        nodes = yield self.lists(texts)
+        constructor = at_sort(symbol, self.sorts[nodes[0]])
+        require(constructor is not None)
+        return self.boolean(constructor.tester, *nodes)
 
     def with_listed_head(self, head, text):
         """`((_ is C) t)` and `((as f S) t ..)`."""
@@ -435,13 +449,8 @@ class Elaboration:
             symbol = self.ascribed(head)
             require(len(symbol.arguments) == len(text) - 1)
             return self.applied(symbol, (yield self.lists(text[1:])))
-        require(head[0] == b"_" and name_of(head[1]) == b"is" and len(text) == 2)
-        symbol = self.script.symbols.get(name_of(head[2]))
-        require(type(symbol) in (Constructor, GenericConstructor) and symbol not in self.script.bool.constructors)
-        nodes = yield self.lists(text[1:])
-        constructor = at_sort(symbol, self.sorts[nodes[0]])
-        require(constructor is not None)
-        return self.boolean(constructor.tester, *nodes)
+        require(head[0] == b"_" and name_of(head[1]) == b"is")
+        return (yield self.tested(name_of(head[2]), text[1:]))
 
     def ascribed(self, text):
         """The symbol of `(as f S)`."""
@@ -793,6 +802,28 @@ class Terms:
 # ---------------------------------------------------------------------------------------------------------------------
 # Commands
 
+NUMERAL_OPTIONS = frozenset(b":reproducible-resource-limit :verbosity :random-seed".split())
+STRING_OPTIONS = frozenset(b":diagnostic-output-channel :regular-output-channel".split())
+BOOLEAN_OPTIONS = frozenset(
+    b":print-success :global-declarations :produce-models :produce-proofs :produce-assertions :produce-assignments "
+    b":produce-unsat-cores :produce-unsat-assumptions :minimal-unsat-cores".split())
+LOGIC_PART = re.compile(rb"AX|A|UF|BV|FP|DT|S|IDL|RDL|LIA|LRA|LIRA|NIA|NRA|NIRA")
+
+
+def is_literal(text):
+    """Whether it is a symbol, or the negation of one."""
+    return name_of(text) is not None or type(text) is list and len(text) == 2 and text[0] == b"not" and name_of(text[1]) is not None
+
+
+def is_logic(name):
+    """Whether the name is one without parts, or different parts one after another, with `QF_` before them or without."""
+    if name in (b"ALL", b"ALL_SUPPORTED"):
+        return True
+    left = name.removeprefix(b"QF_")
+    parts = LOGIC_PART.findall(left)
+    return parts != [] and b"".join(parts) == left and len(set(parts)) == len(parts)
+
+
 class Script:
     """What is declared, defined and asserted, at one moment of a script."""
 
@@ -804,6 +835,7 @@ class Script:
     def start(self):
         """All as at the start, but for the number of checks."""
         self.globally = False
+        self.ends_at_errors = False  # whether a refused command ends the script
         self.outset()
 
     def outset(self):
@@ -821,19 +853,21 @@ class Script:
         self.levels = []
 
     def answer(self, command, wanted):
-        """Does a command, and says whether nothing after it is looked at: it is `exit`, or the check of the number that is wanted."""
+        """Does a command, and says whether nothing after it is looked at: it is `exit`, the check of the number that is wanted, or a
+        refused command where these end the script. A command that asks for a verdict or for what it left is never refused here."""
         word = command[0] if command else None
         if word == b"exit" and len(command) == 1:
             return True
         if word == b"check-sat" and len(command) == 1:
             self.checks += 1
             return self.checks == wanted
-        if type(word) is bytes and word in COMMANDS:
-            before = self.declared()
-            try:
-                COMMANDS[word](self, *command[1:])
-            except Refused:
-                self.take_back(*before)
+        before = self.declared()
+        try:
+            require(type(word) is bytes and word in COMMANDS)
+            COMMANDS[word](self, *command[1:])
+        except Refused:
+            self.take_back(*before)
+            return self.ends_at_errors
         return False
 
     def declared(self):
@@ -978,11 +1012,45 @@ class Script:
     # Each command takes the expressions after its word.
 
     def set_option(self, *rest):
-        require(len(rest) == 2 and rest[0] == b":global-declarations")
-        value = name_of(rest[1])
-        require(value in (b"true", b"false"))
-        require(not (self.levels or self.assertions or len(self.sorts) > 1 or len(self.symbols) > 2))
-        self.globally = value == b"true"
+        require(len(rest) == 2 and is_keyword(rest[0]))
+        option, value = rest
+        if option in NUMERAL_OPTIONS:
+            require(type(value) is int)
+        elif option in STRING_OPTIONS:
+            require(type(value) is bytes and value[0] == ord('"'))
+        elif option == b":error-behavior":
+            require(name_of(value) in (b"continued-execution", b"immediate-exit"))
+            self.ends_at_errors = name_of(value) == b"immediate-exit"
+        elif option in BOOLEAN_OPTIONS:
+            require(name_of(value) in (b"true", b"false"))
+            if option == b":global-declarations":
+                require(not (self.levels or self.assertions or len(self.sorts) > 1 or len(self.symbols) > 2))
+                self.globally = name_of(value) == b"true"
+
+    def set_logic(self, *rest):
+        require(len(rest) == 1 and is_logic(name_of(rest[0]) or b""))
+
+    def set_info(self, *rest):
+        require(len(rest) in (1, 2) and is_keyword(rest[0]))
+
+    def get_setting(self, *rest):
+        require(len(rest) == 1 and is_keyword(rest[0]))
+
+    def echo(self, *rest):
+        require(len(rest) == 1 and type(rest[0]) is bytes and rest[0][0] == ord('"'))
+
+    def ask(self, *rest):
+        """Asks for what a verdict left, without arguments."""
+        require(not rest)
+
+    def get_value(self, *rest):
+        require(len(rest) == 1 and type(rest[0]) is list and rest[0])
+
+    def check_sat_assuming(self, *rest):
+        require(len(rest) == 1 and type(rest[0]) is list and all(map(is_literal, rest[0])))
+
+    def unsupported(self, *rest):
+        """Is answered, whatever follows."""
 
     def declare_sort(self, *rest):
         require(len(rest) == 2 and type(rest[1]) is int and rest[1] <= MOST_ARGUMENTS)
@@ -1223,6 +1291,14 @@ COMMANDS = {
     b"define-const": Script.define_const, b"define-fun": Script.define_fun,
     b"assert": Script.assert_, b"push": Script.push, b"pop": Script.pop,
     b"reset-assertions": Script.reset_assertions, b"reset": Script.reset,
+    b"set-logic": Script.set_logic, b"set-info": Script.set_info, b"get-info": Script.get_setting,
+    b"get-option": Script.get_setting, b"echo": Script.echo,
+    b"check-sat": Script.ask, b"exit": Script.ask, b"get-model": Script.ask, b"get-proof": Script.ask,
+    b"get-unsat-core": Script.ask, b"get-unsat-assumptions": Script.ask, b"get-value": Script.get_value,
+    b"check-sat-assuming": Script.check_sat_assuming,
+    b"get-assertions": Script.unsupported, b"get-assignment": Script.unsupported,
+    b"define-fun-rec": Script.unsupported, b"define-funs-rec": Script.unsupported,
+    b"declare-sort-parameter": Script.unsupported,
 }
 
 
@@ -1925,6 +2001,7 @@ def main(arguments):
             return 3
         if any(len(text) > MOST_BYTES for text in files):
             return 7
+        files[0] = VERDICT.sub(b"", files[0])
         gc.disable()  # hardly anything goes round, and millions of lists are looked through in vain
         try:
             line, status = audit(*files)
