@@ -854,7 +854,7 @@ class Script:
 
     def answer(self, command, wanted):
         """Does a command, and says whether nothing after it is looked at: it is `exit`, the check of the number that is wanted, or a
-        refused command where these end the script. A command that asks for a verdict or for what it left is never refused here."""
+        refused command where these end the script. A command that asks for what a verdict left is refused here for its form alone."""
         word = command[0] if command else None
         if word == b"exit" and len(command) == 1:
             return True
