@@ -1,5 +1,5 @@
 -- Nodes over default values: they fit, and what stands in them.
-use Rattle.std.proofs.Common.{◌≡◌, ℕ, zero, suc, ◌<◌, false, List, [], ◌∷◌, length, map, slice_get, slice_set, Some, Option, option_map, unwrap_or, refl, sym, ◌∙◌, ap, subst}
+use Rattle.std.proofs.Common.{◌≡◌, ℕ, zero, suc, ◌<◌, false, List, [], ◌∷◌, length, map, slice_get, slice_set, None, Some, Option, option_map, unwrap_or, refl, sym, ◌∙◌, ap, subst}
 use Rattle.std.specs.List.{AllZip}
 use Rattle.std.proofs.lemmas.Option.{none-some, same_Some, slice_get_within}
 use Rattle.ct_lemmas.proofs.Each.{All-from_slice_get}
@@ -20,7 +20,7 @@ use Rattle.ct_values.specs.Fitting.{HasNodeSort, IsNodeOfField, FitsNode, node_s
 use Rattle.ct_card.specs.declared.departure.Step.{Step}
 use Rattle.ct_card.specs.Fields.{field_sort, sels_of, ctor_fields, ctors_of}
 use Rattle.ct_card.specs.Defaults.{is_free_sort, node_of_sort, AreChosen}
-use Rattle.ct_card.specs.Built.{HaveTheirSorts, node_over, node_with}
+use Rattle.ct_card.specs.Built.{HaveTheirSorts, node_over, node_of_layer, with_second, CanSet}
 use Rattle.ct_card.proofs.RuleLemmas.{sels_at, ctors_at, field_at, ctor_field}
 use Rattle.ct_card.proofs.WellFormedLemmas.{fits_within}
 use Rattle.ct_card.proofs.DefaultLemmas.{free_at, has_ctors}
@@ -44,6 +44,11 @@ set_elsewhere (a ∷ xs) zero zero x y other at = absurd (other refl)
 set_elsewhere (a ∷ xs) zero (suc j) x y other at = at
 set_elsewhere (a ∷ xs) (suc k) zero x y other at = at
 set_elsewhere (a ∷ xs) (suc k) (suc j) x y other at = set_elsewhere xs k j x y (λ e. other (ap suc e)) at
+
+-- what stands elsewhere than in the place of the field that is set
+pub unset_at : (several : List ℕ) (second : ℕ) (set : Option Step) (nodes : List NodeId) (place : ℕ) (node : NodeId) → ((other : Step) → set ≡ Some other → place ≡ other.place → ⊥) → slice_get nodes place ≡ Some node → slice_get (with_second several second set nodes) place ≡ Some node
+unset_at several second None nodes place node apart at = at
+unset_at several second (Some other) nodes place node apart at = set_elsewhere nodes other.place place (node_of_sort second several other.next) node (apart other refl) at
 
 -- the head of a node, and its child at a place
 pub head_at : (g : Nodes) (n : NodeId) (node : Node) → slice_get g n.0 ≡ Some node → head (node_point g n) ≡ Some (node_head node)
@@ -97,23 +102,35 @@ module _ (d : Declarations) (consistent : IsConsistent d) (own : HaveOwnConstruc
     pub fits_over : (c : CtorId) → c.0 < length d.ctors → FitsNode d g (node_over d ranks base c)
     fits_over c within = let ctor = slice_get-there d.ctors c.0 within in record { ctor = ctor.0; declared = ctor.1; fields = over_fields c ctor.0 ctor.1 }
 
-    pub fits_with : (step : Step) (child : NodeId) → step.ctor.0 < length d.ctors → slice_get (ctor_fields d step.ctor) step.place ≡ Some step.next → HasNodeSort d g child (record { 0 = step.next }) → FitsNode d g (node_with d ranks base step child)
-    fits_with step child within field child_sorted =
+    -- a node of a field's sort stands at a selector of the constructor in the place of the field
+    node_of_field : (c : CtorId) (place next : ℕ) (child : NodeId) (ctor : Constructor) → slice_get d.ctors c.0 ≡ Some ctor → slice_get (ctor_fields d c) place ≡ Some next → HasNodeSort d g child (record { 0 = next }) → (id : SelId) → slice_get ctor.sels place ≡ Some id → IsNodeOfField d g child id
+    node_of_field c place next child ctor declared field child_sorted id at_id =
+        let source = slice_get-map_source (field_sort d) (sels_of d c) place next field in
+        let at_sel : slice_get ctor.sels place ≡ Some source.0 = ap (λ (l : List SelId). slice_get l place) (sym (sels_at d consistent own own_sels of_sorts of_ctors c ctor declared)) ∙ source.1 in
+        let sel = own_sels c.0 place ctor source.0 declared at_sel in
+        let sort : next ≡ sel.0.sort.0 = sym source.2 ∙ field_at d consistent own own_sels of_sorts of_ctors source.0 sel.0 sel.1 in
+        let same : id ≡ source.0 = same_Some _ _ (sym at_id ∙ at_sel) in
+        record {
+          selector = sel.0;
+          declared = ap (λ (z : SelId). slice_get d.sels z.0) same ∙ sel.1;
+          sorted = subst (λ (z : SortId). HasNodeSort d g child z) (ap (λ n. record { 0 = n }) sort) child_sorted;
+        }
+
+    step_fields : (step : Step) (child : NodeId) (ctor : Constructor) → slice_get d.ctors step.ctor.0 ≡ Some ctor → slice_get (ctor_fields d step.ctor) step.place ≡ Some step.next → HasNodeSort d g child (record { 0 = step.next }) → AllZip (IsNodeOfField d g) (slice_set (map (node_of_sort base ranks) (ctor_fields d step.ctor)) step.place child) ctor.sels
+    step_fields step child ctor declared field child_sorted =
+        paired_set (IsNodeOfField d g) (map (node_of_sort base ranks) (ctor_fields d step.ctor)) ctor.sels step.place child (over_fields step.ctor ctor declared) (node_of_field step.ctor step.place step.next child ctor declared field child_sorted)
+
+    pub fits_layer : (several : List ℕ) (second : ℕ) (step : Step) (set : Option Step) (child : NodeId) → step.ctor.0 < length d.ctors → slice_get (ctor_fields d step.ctor) step.place ≡ Some step.next → HasNodeSort d g child (record { 0 = step.next })
+        → ((other : Step) → set ≡ Some other → CanSet d several second g step other) → FitsNode d g (node_of_layer d several ranks base second step set child)
+    fits_layer several second step None child within field child_sorted can =
+        let ctor = slice_get-there d.ctors step.ctor.0 within in record { ctor = ctor.0; declared = ctor.1; fields = step_fields step child ctor.0 ctor.1 field child_sorted }
+    fits_layer several second step (Some other) child within field child_sorted can =
         let ctor = slice_get-there d.ctors step.ctor.0 within in
-        let source = slice_get-map_source (field_sort d) (sels_of d step.ctor) step.place step.next field in
-        let at_sel : slice_get ctor.0.sels step.place ≡ Some source.0 = ap (λ (l : List SelId). slice_get l step.place) (sym (sels_at d consistent own own_sels of_sorts of_ctors step.ctor ctor.0 ctor.1)) ∙ source.1 in
-        let sel = own_sels step.ctor.0 step.place ctor.0 source.0 ctor.1 at_sel in
-        let sort : step.next ≡ sel.0.sort.0 = sym source.2 ∙ field_at d consistent own own_sels of_sorts of_ctors source.0 sel.0 sel.1 in
+        let is = can other refl in
         record {
           ctor = ctor.0;
           declared = ctor.1;
-          fields = paired_set (IsNodeOfField d g) (map (node_of_sort base ranks) (ctor_fields d step.ctor)) ctor.0.sels step.place child (over_fields step.ctor ctor.0 ctor.1) (λ id at_id.
-              let same : id ≡ source.0 = same_Some _ _ (sym at_id ∙ at_sel) in
-              record {
-                selector = sel.0;
-                declared = ap (λ (z : SelId). slice_get d.sels z.0) same ∙ sel.1;
-                sorted = subst (λ (z : SortId). HasNodeSort d g child z) (ap (λ n. record { 0 = n }) sort) child_sorted;
-              });
+          fields = paired_set (IsNodeOfField d g) (slice_set (map (node_of_sort base ranks) (ctor_fields d step.ctor)) step.place child) ctor.0.sels other.place (node_of_sort second several other.next) (step_fields step child ctor.0 ctor.1 field child_sorted) (node_of_field step.ctor other.place other.next (node_of_sort second several other.next) ctor.0 ctor.1 is.field.field is.sorted);
         }
 
 -- the children of a node that fits are below the end of the graph

@@ -1,5 +1,5 @@
 -- Ranks that are cut: the first numbers keep their order, and are counted anew.
-use Rattle.std.proofs.Common.{◌≡◌, ℕ, zero, suc, ◌+◌, ◌<◌, ◌≤◌, ◌⊎◌, List, [], ◌∷◌, length, take, get_or, slice_get, Some, refl, sym, ◌∙◌, ap, subst, inl, inr, arith}
+use Rattle.std.proofs.Common.{◌≡◌, ℕ, zero, suc, ◌+◌, ◌<◌, ◌≤◌, List, [], ◌∷◌, length, take, get_or, slice_get, Some, refl, sym, ◌∙◌, ap, subst, inl, inr, arith}
 use Rattle.std.proofs.lemmas.List.{get_or-set_same, get_or-set_other}
 use Rattle.std.proofs.lemmas.Bool.{cases_order}
 use Rattle.std.proofs.lemmas.Option.{same_Some, slice_get_within}
@@ -7,7 +7,7 @@ use Rattle.std.proofs.Math.ListN.{set}
 use Rattle.ct_lemmas.proofs.Numbers.{last_or_before}
 use Rattle.ct_lemmas.proofs.Prefixes.{slice_get-take, slice_get-take_below, take-slice_get}
 use Rattle.ct_card.specs.Extended.{AreCut, AreKept}
-use Rattle.ct_card.specs.Rules.{IsDerived, IsOrder}
+use Rattle.ct_card.specs.Rules.{IsOrder}
 use Rattle.ct_card.proofs.RankLemmas.{ranks_bounded, past_ranks}
 use Rattle.ct_card.proofs.RuleLemmas.{cases_below}
 

@@ -17,7 +17,7 @@ use Rattle.ct_card.specs.Fields.{ctor_fields, ctors_of}
 use Rattle.ct_card.specs.Rules.{IsDerived}
 use Rattle.ct_card.specs.Ranked.{AreSeveral, AreSmall}
 use Rattle.ct_card.specs.Defaults.{is_free, is_free_sort}
-use Rattle.ct_card.specs.Departures.{IsLower, IsDeparture, HasNoDeparture, IsLayer, IsLargeStep, HasSmallFields}
+use Rattle.ct_card.specs.Departures.{IsLower, IsDeparture, HasNoDeparture, IsDigitField, IsLayer, IsLargeStep, HasSmallFields}
 use Rattle.ct_card.proofs.SizeLemmas.{derived_or, one_of, finite_small, infinite_large}
 use Rattle.ct_card.proofs.RuleLemmas.{ctors_at, field_ctor}
 use Rattle.ct_card.proofs.DefaultLemmas.{free_at, has_ctors}
@@ -137,11 +137,11 @@ module _ (d : Declarations) (consistent : IsConsistent d) (own : HaveOwnConstruc
         all step.index step.field.index t step.id listed (field_ctor d consistent own own_sels of_sorts of_ctors step.id step.ctor t step.declared step.field))) infinite
 
     -- the layer by a step to a sort that is not small
-    pub layer_from : (s : ℕ) (layer : Layer) (step : Step) → s < length d.sorts → IsInfinite d s → IsLargeStep d small s step → layer.step ≡ step → IsDeparture d several s step.ctor layer.departure → ((other : Step) → layer.departure ≡ Field other → other.place ≡ step.place → ⊥) → (layer.departure ≡ Nowhere → HasNoDeparture d several s step.ctor step.place) → IsLayer d several s layer
-    layer_from s layer step within infinite large e departs apart nowhere =
+    pub layer_from : (s : ℕ) (layer : Layer) (step : Step) → s < length d.sorts → IsInfinite d s → IsLargeStep d small s step → layer.step ≡ step → IsDeparture d several s step.ctor layer.departure → ((other : Step) → layer.departure ≡ Field other → other.place ≡ step.place → ⊥) → (layer.departure ≡ Nowhere → HasNoDeparture d several s step.ctor step.place) → ((digit : Step) → layer.digit ≡ Some digit → IsDigitField d several step digit) → IsLayer d several s layer
+    layer_from s layer step within infinite large e departs apart nowhere digit =
         let inside : step.next < length d.sorts = field_within d consistent own own_sels of_sorts of_ctors step.ctor step.place step.next (own_within d consistent own own_sels of_sorts of_ctors s large.index step.ctor within large.listed) large.field in
         let same : step ≡ layer.step = sym e in
-        subst (λ (z : Step). IsLayer d several s (record { step = z; departure = layer.departure })) same
+        subst (λ (z : Step). IsLayer d several s (record { step = z; departure = layer.departure; digit = layer.digit })) same
         record {
           index = large.index;
           listed = large.listed;
@@ -150,4 +150,5 @@ module _ (d : Declarations) (consistent : IsConsistent d) (own : HaveOwnConstruc
           departs = departs;
           apart = apart;
           falls = λ none. skipped_lower s large.index step.ctor step.place step.next within large.listed (large_several s within infinite) large.field (nowhere none);
+          digit = digit;
         }

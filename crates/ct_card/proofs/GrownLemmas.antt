@@ -1,23 +1,21 @@
 -- Sizes of declarations that grew, or were cut: the earlier sorts keep theirs.
-use Rattle.std.proofs.Common.{◌≡◌, ℕ, ◌<◌, ◌≤◌, false, List, [], length, get_or, slice_get, Some, Option, option_map, unwrap_or, refl, sym, ◌∙◌, ap, subst, inl, inr, arith}
+use Rattle.std.proofs.Common.{◌≡◌, ℕ, ◌<◌, ◌≤◌, false, List, [], length, get_or, slice_get, Some, Option, option_map, unwrap_or, refl, sym, ◌∙◌, ap, inl, inr, arith}
 use Rattle.std.proofs.lemmas.Option.{none-some, slice_get_within}
 use Rattle.ct_sorts.specs.declared.ids.CtorId.{CtorId}
-use Rattle.ct_sorts.specs.declared.ids.Kind.TheVariants.{Data}
 use Rattle.ct_sorts.specs.Declarations.{Declarations, Sort}
 use Rattle.ct_sorts.specs.Consistent.{IsConsistent}
 use Rattle.ct_sorts.specs.Structure.{HaveOwnConstructors, AreOfTheirSorts, HaveOwnSelectors, AreOfTheirConstructors}
 use Rattle.ct_card.specs.declared.size.Size.{Size}
-use Rattle.ct_card.specs.declared.departure.Step.{Step}
 use Rattle.ct_card.specs.declared.departure.Layer.{Layer}
 use Rattle.ct_card.specs.declared.departure.Departure.{Departure}
 use Rattle.ct_card.specs.declared.departure.Departure.TheVariants.{Nowhere, Constructor as Other, Field}
 use Rattle.ct_card.specs.Cardinality.{IsInfinite, HasSize}
-use Rattle.ct_card.specs.Defaults.{is_free_sort, IsChoice, AreChosen, IsPlan}
+use Rattle.ct_card.specs.Defaults.{is_free_sort, IsChoice, AreChosen}
 use Rattle.ct_card.specs.Departures.{IsDeparture, AreSeconds, IsLayer, AreLayers}
 use Rattle.ct_card.specs.Extended.{IsLater, AreGrownBy, IsChosen, IsSecond, IsLayerOf, AreCut}
 use Rattle.ct_card.specs.Fields.{ctor_fields, ctors_of}
 use Rattle.ct_card.specs.Founding.{AreFounded}
-use Rattle.ct_card.specs.Ranked.{HasOtherCount, HasLower, AreSeveral, IsBuiltLower, AreSmall}
+use Rattle.ct_card.specs.Ranked.{AreSeveral, AreSmall}
 use Rattle.ct_card.specs.Rules.{IsDerived, HaveStayed, IsOrder}
 use Rattle.ct_card.specs.Sizes.{Table, AreSizes, IsSizeBy, no_sizes}
 use Rattle.ct_card.proofs.SizeLemmas.{derived_within, size_from}
@@ -45,6 +43,14 @@ module _ (a b : Declarations) (bound : ℕ) (from to : List ℕ) (still : (n : �
         departs = departs_over s layer.step.ctor layer.departure within ctors fields inside is.departs;
         apart = is.apart;
         falls = λ none. lower layer.step.next s less within (is.falls none);
+        digit = λ step at.
+            let holds = is.digit step at in
+            record {
+              ctor = holds.ctor;
+              field = ap (λ (l : List ℕ). slice_get l step.place) (sym fields) ∙ holds.field;
+              derived = still step.next (inside step.place step.next holds.field) holds.derived;
+              apart = holds.apart;
+            };
       }
 
   choice_over : (s : ℕ) (sort : Sort) (c : CtorId) → s < bound → ctor_fields a c ≡ ctor_fields b c → ((k t : ℕ) → slice_get (ctor_fields a c) k ≡ Some t → t < bound) → IsChoice a from s sort c → IsChoice b to s sort c

@@ -15,6 +15,7 @@ pub mod BuiltLemmas
 pub mod EndLemmas
 pub mod SignLemmas
 pub mod DepartureLemmas
+pub mod DescentLemmas
 pub mod LayerLemmas
 pub mod MadeLemmas
 pub mod CutLemmas

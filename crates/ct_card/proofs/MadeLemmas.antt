@@ -1,5 +1,5 @@
 -- Values that were made before: in a longer graph, and with one more.
-use Rattle.std.proofs.Common.{◌≡◌, ℕ, ◌⊎◌, List, ◌++◌, Option, Some, None, refl, sym, subst, inl, inr}
+use Rattle.std.proofs.Common.{◌≡◌, ℕ, ◌⊎◌, false, List, ◌++◌, Option, Some, None, refl, sym, subst, inl, inr}
 use Rattle.std.proofs.lemmas.Option.{slice_get_within}
 use Rattle.ct_sorts.specs.declared.ids.CtorId.{CtorId}
 use Rattle.ct_sorts.specs.Declarations.{Declarations}
@@ -32,7 +32,7 @@ none_from (Some x) none = absurd (none x refl)
 longer_nth : Agrees → (d : Declarations) (ctors : List CtorId) (seconds : List Departure) (layers : List Layer) (g more : Nodes) (s n : ℕ) (k : NodeId) → IsClosed g → HasNodeSort d g k (record { 0 = s }) → IsNthIn d ctors seconds layers s n (node_point g k) → IsNthIn d ctors seconds layers s n (node_point (g ++ more) k)
 longer_nth laws d ctors seconds layers g more s n k closed has (count, is) =
     let same = laws.turned (node_point (g ++ more) k) (node_point g k) (laws.grown g more (reference k) closed (slice_get_within g k.0 has.0 has.1)) in
-    (count, nth_same laws d ctors seconds layers count s n (node_point g k) (node_point (g ++ more) k) same is)
+    (count, nth_same laws d ctors seconds layers count false s n (node_point g k) (node_point (g ++ more) k) same is)
 
 -- the graph is longer, and one more value may have been made
 pub prepared_more : Agrees → (d : Declarations) (table : Table) (g longer : Nodes) (p : Prepared) (s n : ℕ) (k : NodeId) (made : List (Option Made)) → IsClosed g → Begins g longer → HasNodeSort d longer k (record { 0 = s }) → IsNthIn d table.ctors table.seconds table.layers s n (node_point longer k)

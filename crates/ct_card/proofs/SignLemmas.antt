@@ -91,15 +91,13 @@ module _ (d : Declarations) (several ranks : List ℕ) (ctors : List CtorId) (se
 
   -- ---- nodes that depart
 
-  -- a node that departs by a field lacks a sign of the field's sort there
-  pub departing_lacks : Agrees → (g : Nodes) (second : ℕ) (n : NodeId) (step : Step) (child : NodeId) (node : Node) → IsClosed g → IsSecondValue d ctors seconds g step.next child → slice_get (ctor_fields d step.ctor) step.place ≡ Some step.next → node ≡ node_with d ranks base step child → n.0 ≡ length g
-      → (path : List ℕ) × (h : Head) × IsSign d ctors seconds step.next path h × (HasHeadAt (step.place ∷ path) h (node_point (g ++ node ∷ []) n) → ⊥)
-  departing_lacks laws g second n step child node closed is field node_is number =
+  -- a node with a second value in a place lacks a sign of the sort there
+  pub child_lacks : Agrees → (g : Nodes) (n : NodeId) (c : CtorId) (ids : List NodeId) (place s : ℕ) (child : NodeId) (node : Node) → IsClosed g → IsSecondValue d ctors seconds g s child → node ≡ Con c ids → slice_get ids place ≡ Some child → n.0 ≡ length g
+      → (path : List ℕ) × (h : Head) × IsSign d ctors seconds s path h × (HasHeadAt (place ∷ path) h (node_point (g ++ node ∷ []) n) → ⊥)
+  child_lacks laws g n c ids place s child node closed is node_is at number =
       let (path, h, sign, none) = is.lacks in
-      let ids = slice_set (map (node_of_sort base ranks) (ctor_fields d step.ctor)) step.place child in
-      let stands : slice_get (g ++ node ∷ []) n.0 ≡ Some (Con step.ctor ids) = ap (slice_get (g ++ node ∷ [])) number ∙ slice_get-last g node ∙ ap Some node_is in
-      let at : slice_get ids step.place ≡ Some child = set_there (map (node_of_sort base ranks) (ctor_fields d step.ctor)) step.place child (node_of_sort base ranks step.next) (slice_get-map_at (node_of_sort base ranks) (ctor_fields d step.ctor) step.place step.next field) in
-      let there_is = child_at (g ++ node ∷ []) n step.ctor ids step.place child stands at in (
+      let stands : slice_get (g ++ node ∷ []) n.0 ≡ Some (Con c ids) = ap (slice_get (g ++ node ∷ [])) number ∙ slice_get-last g node ∙ ap Some node_is in
+      let there_is = child_at (g ++ node ∷ []) n c ids place child stands at in (
         path,
         h,
         sign,
@@ -107,6 +105,13 @@ module _ (d : Declarations) (several ranks : List ℕ) (ctors : List CtorId) (se
             let same : q ≡ node_point (g ++ node ∷ []) child = same_Some _ _ (sym at_q ∙ there_is) in
             none (shorter_head_at laws g (node ∷ []) child path h closed (slice_get_within g child.0 is.sorted.0 is.sorted.1) (subst (λ (z : Point). HasHeadAt path h z) same has)),
       )
+
+  -- and so does one that departs by a field
+  pub departing_lacks : Agrees → (g : Nodes) (second : ℕ) (n : NodeId) (step : Step) (child : NodeId) (node : Node) → IsClosed g → IsSecondValue d ctors seconds g step.next child → slice_get (ctor_fields d step.ctor) step.place ≡ Some step.next → node ≡ node_with d ranks base step child → n.0 ≡ length g
+      → (path : List ℕ) × (h : Head) × IsSign d ctors seconds step.next path h × (HasHeadAt (step.place ∷ path) h (node_point (g ++ node ∷ []) n) → ⊥)
+  departing_lacks laws g second n step child node closed is field node_is number =
+      child_lacks laws g n step.ctor (slice_set (map (node_of_sort base ranks) (ctor_fields d step.ctor)) step.place child) step.place step.next child node closed is node_is
+      (set_there (map (node_of_sort base ranks) (ctor_fields d step.ctor)) step.place child (node_of_sort base ranks step.next) (slice_get-map_at (node_of_sort base ranks) (ctor_fields d step.ctor) step.place step.next field)) number
 
   -- the head of a node that was pushed
   pub pushed_head : (g : Nodes) (n : NodeId) (node : Node) → n.0 ≡ length g → head (node_point (g ++ node ∷ []) n) ≡ Some (node_head node)

@@ -1,14 +1,12 @@
 -- Rules of sorts one after the other: what one more sort adds.
-use Rattle.std.proofs.Common.{◌≡◌, ℕ, suc, ◌+◌, ◌<◌, ◌≤◌, ◌⊎◌, List, [], ◌∷◌, ◌++◌, length, slice_get, Some, refl, sym, ◌∙◌, ap, subst, inl, inr, arith, length-append}
-use Rattle.std.proofs.lemmas.Bool.{cases_order}
+use Rattle.std.proofs.Common.{◌≡◌, ℕ, ◌+◌, ◌<◌, ◌≤◌, List, [], ◌∷◌, ◌++◌, length, slice_get, Some, sym, ◌∙◌, ap, subst, inl, inr, arith}
 use Rattle.std.proofs.lemmas.Option.{same_Some, slice_get_within}
 use Rattle.ct_lemmas.proofs.Lists.{slice_get-append_cases, slice_get-append_left, slice_get-last, slice_get-there}
 use Rattle.ct_lemmas.proofs.Numbers.{last_or_before}
-use Rattle.ct_sorts.specs.Grown.{Begins}
 use Rattle.ct_card.specs.declared.chain.Rule.{Rule}
 use Rattle.ct_card.specs.Extended.{AreGrownBy}
 use Rattle.ct_card.specs.Ruled.{HasRule, IsOneOf, AreSortRules, AreItemRules}
-use Rattle.ct_card.proofs.ListLemmas.{pushed_at, none_at, begins_pushed}
+use Rattle.ct_card.proofs.ListLemmas.{pushed_at, none_at}
 
 -- what stands in a list that begins with another, from the end of that on, with one more
 pub pushed_each : {X : Type 0} (Is : ℕ → X → Type 0) (old now : List X) (x : X) (count : ℕ) → length now ≡ length old + count → ((i : ℕ) (y : X) → slice_get now (length old + i) ≡ Some y → Is i y) → Is count x → (i : ℕ) (y : X) → slice_get (now ++ x ∷ []) (length old + i) ≡ Some y → Is i y

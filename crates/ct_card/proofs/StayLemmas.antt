@@ -1,18 +1,17 @@
 -- What declarations say of a sort stays where more is declared, and was so before: constructors, fields, and so the size.
-use Rattle.std.proofs.Common.{◌≡◌, ℕ, zero, suc, ◌<◌, ◌≤◌, ◌⊎◌, Bool, true, false, cond, nat_lt, List, [], ◌∷◌, ◌++◌, length, map, slice_get, Some, Option, option_map, unwrap_or, refl, sym, ◌∙◌, ap, subst, inl, inr, arith, Decides, true≢false, length-append}
+use Rattle.std.proofs.Common.{◌≡◌, ℕ, zero, suc, ◌<◌, ◌≤◌, Bool, true, false, cond, nat_lt, List, [], ◌∷◌, length, map, slice_get, Some, Option, option_map, unwrap_or, refl, sym, ◌∙◌, ap, subst, arith, Decides, length-append}
 use Rattle.std.proofs.lemmas.Bool.{false≢true}
 use Rattle.std.proofs.lemmas.Bool.Decides.{Decides-ltb}
-use Rattle.std.proofs.lemmas.Option.{none-some, same_Some, slice_get_within}
+use Rattle.std.proofs.lemmas.Option.{slice_get_within}
 use Rattle.ct_lemmas.proofs.Lists.{slice_get-append_left, slice_get-map_source, slice_get-there}
 use Rattle.ct_sorts.specs.declared.ids.CtorId.{CtorId}
 use Rattle.ct_sorts.specs.declared.ids.SelId.{SelId}
 use Rattle.ct_sorts.specs.Declarations.{Declarations, Sort, Constructor, Selector}
-use Rattle.ct_sorts.specs.Founded.{HasFieldsIn}
 use Rattle.ct_sorts.specs.Grown.{Begins}
 use Rattle.ct_card.specs.declared.size.Size.{Size}
 use Rattle.ct_card.specs.declared.size.Size.TheVariants.{One, Finite, Infinite}
-use Rattle.ct_card.specs.Dependence.{HasFieldOf, DependsOn, IsWay, DependsInSteps}
-use Rattle.ct_card.specs.Cardinality.{HasOneShape, IsSingleSet, IsSingle, IsInfiniteSet, IsInfinite, HasSize}
+use Rattle.ct_card.specs.Dependence.{DependsOn, IsWay}
+use Rattle.ct_card.specs.Cardinality.{IsSingleSet, IsSingle, IsInfiniteSet, IsInfinite, HasSize}
 use Rattle.ct_card.specs.Defaults.{is_free, is_free_sort}
 use Rattle.ct_card.specs.Extended.{IsLater}
 use Rattle.ct_card.specs.Fields.{field_sort, sels_of, ctor_fields, ctors_of}

@@ -45,8 +45,16 @@ pub record AreSeconds (d : Declarations) (several : List ℕ) (ctors : List Ctor
   pub each : (s : ℕ) (c : CtorId) (departure : Departure) → slice_get ctors s ≡ Some c → slice_get seconds s ≡ Some departure → is_free_sort d s ≡ false → IsDeparture d several s c departure
   pub some : (s : ℕ) → slice_get seconds s ≡ Some Nowhere → is_free_sort d s ≡ false → IsDerived several s → ⊥
 
+-- the digit goes by another field of the step's constructor to a sort of several values
+pub record IsDigitField (d : Declarations) (several : List ℕ) (step digit : Step) : Type 0 where
+  pub ctor : digit.ctor ≡ step.ctor
+  pub field : slice_get (ctor_fields d step.ctor) digit.place ≡ Some digit.next
+  pub derived : IsDerived several digit.next
+  pub apart : digit.place ≡ step.place → ⊥
+
 -- values of the sort are built in layers of a constructor around the values of an infinite field; a value may depart there
--- from default values at the other fields, and where none can the rank among the sorts of several values falls
+-- from default values at the other fields, and where none can the rank among the sorts of several values falls; another field
+-- may hold a digit
 pub record IsLayer (d : Declarations) (several : List ℕ) (s : ℕ) (layer : Layer) : Type 0 where
   pub index : ℕ
   pub listed : slice_get (ctors_of d s) index ≡ Some layer.step.ctor
@@ -55,6 +63,7 @@ pub record IsLayer (d : Declarations) (several : List ℕ) (s : ℕ) (layer : La
   pub departs : IsDeparture d several s layer.step.ctor layer.departure
   pub apart : (step : Step) → layer.departure ≡ Field step → step.place ≡ layer.step.place → ⊥
   pub falls : layer.departure ≡ Nowhere → get_or several layer.step.next 0 < get_or several s 0
+  pub digit : (step : Step) → layer.digit ≡ Some step → IsDigitField d several layer.step step
 
 -- for each infinite sort with constructors such a layer
 pub record AreLayers (d : Declarations) (several : List ℕ) (layers : List Layer) : Type 0 where

@@ -6,7 +6,7 @@ ghost use Rattle.ct_values.specs.Fitting.{HasNodeSort, FitsNode};
 ghost use Rattle.ct_card.specs.Fields.{ctor_fields};
 ghost use Rattle.ct_card.specs.Rules.{IsDerived};
 ghost use Rattle.ct_card.specs.Defaults.{node_of_sort, is_free_sort, AreRanked};
-ghost use Rattle.ct_card.specs.Built.{HaveTheirSorts, node_over, node_with, IsEndNode, IsDepartingNode, CanDepart};
+ghost use Rattle.ct_card.specs.Built.{HaveTheirSorts, node_over, node_of_layer, with_second, IsEndNode, IsDepartingNode, CanDepart, CanSet};
 
 use crate::choice::rank_of;
 use crate::defaults::{default_children, is_free};
@@ -42,14 +42,17 @@ pub(crate) fn push_over(
 }
 
 /// One more node: the constructor of the step over the default values of its fields, but with this node in the place of the
-/// step.
-pub(crate) fn push_with(
+/// step, and with the second value in the field that is set, if one is. Second values stand from the second number on.
+pub(crate) fn push_layer(
     alloc: Global,
     sig: &Signature,
+    several: &[usize],
     ranks: &[usize],
     base: u64,
+    second: u64,
     g: &mut Graph,
     step: Step,
+    set: Option<Step>,
     child: NodeId,
 ) -> Result<NodeId, CardError>
     requires inside { IsConstructor sig.now step.ctor }
@@ -58,17 +61,31 @@ pub(crate) fn push_with(
     requires sorted { HaveTheirSorts sig.now ranks.now base g.old }
     requires field { slice_get (ctor_fields sig.now step.ctor) step.place ≡ Some step.next }
     requires child { HasNodeSort sig.now g.old child (record { 0 = step.next }) }
+    requires set { (other : Step) → set ≡ Some other → CanSet sig.now several.now second g.old step other }
     ensures number { IfOk result (λ n. n.0 ≡ length g.old) }
-    ensures pushed { IfOk result (λ n. g.new ≡ g.old ++ node_with sig.now ranks.now base step child ∷ []) }
-    ensures fits { IfOk result (λ n. FitsNode sig.now g.old (node_with sig.now ranks.now base step child)) }
+    ensures pushed { IfOk result (λ n. g.new ≡ g.old ++ node_of_layer sig.now several.now ranks.now base second step set child ∷ []) }
+    ensures fits { IfOk result (λ n. FitsNode sig.now g.old (node_of_layer sig.now several.now ranks.now base second step set child)) }
     ensures err { OnErr result (g.new ≡ g.old) }
 {
     structure();
     prove!(sig.sorts() > 0);
     let mut children = default_children(alloc, sig, ranks, base, step.ctor)?;
     children[step.place] = child;
+    set_second(several, second, set, &mut children);
     let n = g.push(Node::Con(step.ctor, NodeIds::new(children)))?;
     Ok(n)
+}
+
+// Puts the second value into the place of the field that is set, if one is.
+fn set_second(several: &[usize], second: u64, set: Option<Step>, children: &mut Vec<NodeId>)
+    requires inside { (other : Step) → set ≡ Some other → other.place < length children.old.items }
+    requires derived { (other : Step) → set ≡ Some other → IsDerived several.now other.next }
+    requires room { (other : Step) → set ≡ Some other → second + get_or several.now other.next 0 < 2 ^ 64 }
+    ensures set { children.new.items ≡ with_second several.now second set children.old.items }
+{
+    if let Some(other) = set {
+        children[other.place] = second_node(several, second, other.next);
+    }
 }
 
 /// One more node: the element with this number where the sort is uninterpreted, and else a node that departs so from default
@@ -127,7 +144,9 @@ fn push_departing(
         Departure::Constructor(other) => push_over(alloc, sig, ranks, base, g, other),
         Departure::Field(step) => {
             let child = second_node(several, second, step.next);
-            push_with(alloc, sig, ranks, base, g, step, child)
+            push_layer(
+                alloc, sig, several, ranks, base, second, g, step, None, child,
+            )
         }
         // No caller asks for it.
         Departure::Nowhere => {

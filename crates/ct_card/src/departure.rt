@@ -27,11 +27,13 @@ pub(crate) enum Departure {
     Field(Step),
 }
 
-/// A layer of values of an infinite sort: a step to an infinite sort, and how a value may depart beside it.
+/// A layer of values of an infinite sort: a step to an infinite sort, how a value may depart beside it, and the field, if
+/// there is one, that may hold a digit of the number: its default value or its second value.
 #[derive(Clone, Copy, Debug)]
 pub(crate) struct Layer {
     pub(crate) step: Step,
     pub(crate) departure: Departure,
+    pub(crate) digit: Option<Step>,
 }
 
 /// How values of the sort may depart from its constructor with these fields: by another constructor, or by a field of a
@@ -122,5 +124,6 @@ pub(crate) fn layer_at(all: &[Layer], n: usize) -> Layer
             next: 0,
         },
         departure: Departure::Nowhere,
+        digit: None,
     }
 }

@@ -1,5 +1,5 @@
 //! The n-th value of an infinite sort: its layers, from the innermost one outward, or from a value that was made before.
-ghost use Rattle.std.specs.Prelude.{◌≡◌, ℕ, ◌+◌, ◌<◌, ◌^◌, List, length, get_or, Some, None, IfOk};
+ghost use Rattle.std.specs.Prelude.{◌≡◌, ℕ, ◌+◌, ◌<◌, ◌^◌, false, List, length, get_or, Some, None, IfOk};
 ghost use Rattle.ct_sorts.specs.declared.ids.CtorId.{CtorId};
 ghost use Rattle.ct_sorts.specs.Grown.{Begins};
 ghost use Rattle.ct_values.specs.Agreement.{node_point};
@@ -14,11 +14,11 @@ ghost use Rattle.ct_card.specs.Departures.{AreSeconds, AreLayers};
 ghost use Rattle.ct_card.specs.Built.{HaveTheirSorts};
 ghost use Rattle.ct_card.specs.Signs.{HasAllDefaults, HasAllSeconds};
 ghost use Rattle.ct_values.specs.declared.node.NodeId.{NodeId};
-ghost use Rattle.ct_card.specs.Descent.{HasComeDown};
+ghost use Rattle.ct_card.specs.Descent.{IsWanted, HasComeDown};
 ghost use Rattle.ct_card.specs.Made.{IsMade, HaveMadeSorts, AreMadeNth};
 ghost use Rattle.ct_card.specs.Nth.{IsNthIn};
 
-use crate::built::{push_end, push_with};
+use crate::built::{push_end, push_layer};
 use crate::departure::{Layer, layer_at};
 use crate::descent::{Descent, descend};
 use crate::error::CardError;
@@ -65,14 +65,17 @@ pub(crate) fn append_nth(
     structure();
     agreement();
     prove!(sig.sorts() > 0);
+    prove!(g.len() <= u64::MAX);
     let mut down = descend(alloc, sig, several, layers, made, s, n)?;
     let mut top = innermost(
         alloc, sig, several, ranks, layers, base, second, made, g, &down,
     )?;
-    while let Some(x) = down.way.pop() {
+    while let Some(passed) = down.way.pop() {
         prove!(g.len() <= u64::MAX);
-        let layer = layer_at(layers, x);
-        top = push_with(alloc, sig, ranks, base, g, layer.step, top)?;
+        let layer = layer_at(layers, passed.sort);
+        top = push_layer(
+            alloc, sig, several, ranks, base, second, g, layer.step, passed.set, top,
+        )?;
     }
     Ok(top)
 }
@@ -90,8 +93,8 @@ fn innermost(
     g: &mut Graph,
     down: &Descent,
 ) -> Result<NodeId, CardError>
-    requires inside { down.now.sort < length sig.now.sorts }
-    requires infinite { IsInfinite sig.now down.now.sort }
+    requires inside { down.now.wanted.sort < length sig.now.sorts }
+    requires infinite { IsInfinite sig.now down.now.wanted.sort }
     requires several { AreSeveral sig.now several.now }
     requires layered { AreLayers sig.now several.now layers.now }
     requires long { length ranks.now ≡ length sig.now.sorts }
@@ -100,17 +103,17 @@ fn innermost(
     requires seconds { (t : ℕ) → IsDerived several.now t → HasNodeSort sig.now g.old (node_of_sort second several.now t) (record { 0 = t }) }
     requires room { (t : ℕ) → IsDerived several.now t → second + get_or several.now t 0 < 2 ^ 64 }
     requires made { HaveMadeSorts sig.now g.old made.now }
-    requires end { down.now.top ≡ None → HasComeDown sig.now layers.now down.now.sort down.now.left }
-    requires found { (k : NodeId) → down.now.top ≡ Some k → IsMade made.now down.now.sort down.now.left k }
+    requires end { down.now.top ≡ None → HasComeDown sig.now layers.now down.now.wanted }
+    requires found { (k : NodeId) → down.now.top ≡ Some k → (down.now.wanted.turn ≡ false) × IsMade made.now down.now.wanted.sort down.now.wanted.number k }
     ensures grown { Begins g.old g.new }
     ensures well_formed { IsWellFormedGraph sig.now g.old → IsWellFormedGraph sig.now g.new }
-    ensures sorted { IfOk result (λ k. HasNodeSort sig.now g.new k (record { 0 = down.now.sort })) }
+    ensures sorted { IfOk result (λ k. HasNodeSort sig.now g.new k (record { 0 = down.now.wanted.sort })) }
     ensures nth { IfOk result (λ k. (ctors : List CtorId) (seconds : List Departure)
         → AreSeconds sig.now several.now ctors seconds
         → HasAllDefaults sig.now ranks.now ctors base g.old
         → HasAllSeconds sig.now several.now ctors seconds second g.old
         → AreMadeNth sig.now ctors seconds layers.now g.old made.now
-        → IsNthIn sig.now ctors seconds layers.now down.now.sort down.now.left (node_point g.new k)) }
+        → IsWanted sig.now ctors seconds layers.now down.now.wanted (node_point g.new k)) }
 {
     structure();
     agreement();
@@ -118,7 +121,7 @@ fn innermost(
     if let Some(top) = down.top {
         return Ok(top);
     }
-    let last = layer_at(layers, down.sort);
+    let last = layer_at(layers, down.wanted.sort);
     prove!(g.len() <= u64::MAX);
     let top = push_end(
         alloc,
@@ -128,8 +131,8 @@ fn innermost(
         base,
         second,
         g,
-        down.sort,
-        down.left,
+        down.wanted.sort,
+        down.wanted.number,
         last.departure,
     )?;
     Ok(top)

@@ -215,7 +215,8 @@ impl Sizes {
     /// other values that it needs. The sizes are those of the signature. Values for different n are
     /// not the same, over any graphs (`different_values`). Where the answer is an error, the graph
     /// may have grown. The time is linear in what is appended: default values and second values of
-    /// all sorts, and a node for each layer of the value.
+    /// all sorts, and a node for each layer of the value. There are about as many layers as n has
+    /// binary digits if a layer on the way has a field for a digit, and n otherwise.
     pub fn nth(
         &self,
         sig: &Signature,

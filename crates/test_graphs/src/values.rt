@@ -1,6 +1,7 @@
 //! Values of sorts. `(default SORT)` shows the text of the default value where the sort has one
 //! value, and else only that there is one. `(two SORT)` and `(nth SORT N ..)` show how many texts
-//! are different: of the two values, or `none`, and of those for these numbers.
+//! are different: of the two values, or `none`, and of those for these numbers. `(texts SORT N ..)`
+//! shows the texts for these numbers.
 ghost use Rattle.ct_sorts.specs.Declarations.{IsSort};
 ghost use Rattle.ct_card.specs.declared.size.Size.TheVariants.{Infinite};
 ghost use Rattle.ct_card.specs.Cardinality.{HasSize};
@@ -26,7 +27,14 @@ pub fn answer(
     match (kind, parts) {
         ("default", [sort]) => show_default(alloc, sig, sort, out)?,
         ("two", [sort]) => show_two(alloc, sig, sort, out)?,
-        ("nth", [sort, numbers @ ..]) => show_nth(alloc, sig, sort, numbers, out)?,
+        ("nth", [sort, numbers @ ..]) => {
+            let texts = nth_texts(alloc, sig, sort, numbers)?;
+            show_count(alloc, &texts, out)?
+        }
+        ("texts", [sort, numbers @ ..]) => {
+            let texts = nth_texts(alloc, sig, sort, numbers)?;
+            show_texts(alloc, &texts, out)?
+        }
         _ => return Ok(false),
     }
     Ok(true)
@@ -82,31 +90,29 @@ fn show_two(
     }
 }
 
-/// Shows how many of the values for these numbers are different, where the sort is infinite.
-fn show_nth(
+/// The different texts of the values for these numbers, where the sort is infinite.
+fn nth_texts(
     alloc: Global,
     sig: &Signature,
     part: &Sexpr,
     numbers: &[Sexpr],
-    out: &mut String,
-) -> Result<(), CaseError> {
+) -> Result<Vec<Vec<u8>>, CaseError> {
     let sort = sort_of(alloc, sig, part)?;
     let sizes = sizes_of(alloc, sig)?;
     match sizes.size_of(sort) {
-        Size::Infinite => show_infinite(alloc, sig, &sizes, sort, numbers, out),
+        Size::Infinite => infinite_texts(alloc, sig, &sizes, sort, numbers),
         Size::One | Size::Finite => Err(CaseError::Bad),
     }
 }
 
 /// The same for a sort that is.
-fn show_infinite(
+fn infinite_texts(
     alloc: Global,
     sig: &Signature,
     sizes: &Sizes,
     sort: SortId,
     numbers: &[Sexpr],
-    out: &mut String,
-) -> Result<(), CaseError>
+) -> Result<Vec<Vec<u8>>, CaseError>
     requires sizes { AreSizes sig.now sizes.now }
     requires inside { IsSort sig.now sort }
     requires infinite { HasSize sig.now sort.0 Infinite }
@@ -117,7 +123,7 @@ fn show_infinite(
         let n = number_of(number)?;
         add_text(nth_text(alloc, sig, sizes, &mut g, sort, n)?, &mut texts)?;
     }
-    show_count(alloc, &texts, out)
+    Ok(texts)
 }
 
 /// The text of the n-th value of an infinite sort.
@@ -167,5 +173,14 @@ fn add_text(text: Vec<u8>, texts: &mut Vec<Vec<u8>>) -> Result<(), CaseError> {
 fn show_count(alloc: Global, texts: &[Vec<u8>], out: &mut String) -> Result<(), CaseError> {
     let count = texts.len();
     out.push_str(format!(in alloc; " {count} different")?.as_str())?;
+    Ok(())
+}
+
+/// Shows the texts.
+fn show_texts(alloc: Global, texts: &[Vec<u8>], out: &mut String) -> Result<(), CaseError> {
+    for text in texts {
+        out.push(' ')?;
+        show_bytes(alloc, text, out)?;
+    }
     Ok(())
 }

@@ -1,12 +1,16 @@
-use Rattle.std.proofs.Common.{ℕ, List, sym, subst}
-use Rattle.ct_card.specs.Descent.{LeadsDown}
-use Rattle.ct_card.proofs.LayerLemmas.{down_less, further_down}
+use Rattle.std.proofs.Common.{List, false, sym, subst}
+use Rattle.ct_card.specs.declared.descent.Wanted.{Wanted}
+use Rattle.ct_card.specs.declared.descent.Passed.{Passed}
+use Rattle.ct_card.specs.Descent.{LeadsDown, weight}
+use Rattle.ct_card.proofs.DescentLemmas.{down_less, further_down}
 use Rattle.ct_card.proofs.descent.descend.Goals as goal
 
 pub loop-down-smaller : goal.loop-down-smaller
 loop-down-smaller c =
+    let old = c.loop-down.down.wanted in
+    let new = c.go_down.new.down.wanted in
     let step = c.in_ok-go_down.ensures.further c.if-branch.true in
-    down_less c.args.several.now c.loop-down.down.left c.loop-down.down.sort c.go_down.new.down.left c.go_down.new.down.sort step.less
+    down_less c.args.several.now (weight old) old.sort (weight new) new.sort step.less
 
 pub loop-down-preserved : goal.loop-down-preserved
 loop-down-preserved c =
@@ -14,10 +18,11 @@ loop-down-preserved c =
     let layers = c.args.layers.now in
     let old = c.loop-down.down in
     let new = c.go_down.new.down in
+    let first : Wanted = record { sort = c.args.s; number = c.args.n; turn = false } in
     let step = c.in_ok-go_down.ensures.further c.if-branch.true in
     record {
-      down = subst (λ (way : List ℕ). LeadsDown d layers c.args.s c.args.n way new.sort new.left) (sym step.way_is)
-          (further_down d layers c.args.s c.args.n old.way.items old.sort old.left new.sort new.left step.layer c.loop-down.invariant.down c.loop-down.invariant.infinite step.passed);
+      down = subst (λ (way : List Passed). LeadsDown d layers first way new.wanted) (sym step.way_is)
+          (further_down d layers first old.way.items old.wanted new.wanted step.layer step.set c.loop-down.invariant.down c.loop-down.invariant.infinite step.passed);
       inside = step.inside;
       infinite = step.infinite;
       made = c.in_ok-go_down.ensures.made;

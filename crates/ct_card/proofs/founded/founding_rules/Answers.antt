@@ -1,8 +1,8 @@
-use Rattle.std.proofs.Common.{List, ◌++◌, ◌∷◌, [], subst, arith}
+use Rattle.std.proofs.Common.{List, subst, arith}
 use Rattle.ct_card.specs.declared.chain.Rule.{Rule}
 use Rattle.ct_card.specs.Fields.{ctors_of}
 use Rattle.ct_card.specs.Founding.{IsKindRule, IsCtorRule}
-use Rattle.ct_card.specs.Ruled.{AreItemRules, AreSortRules}
+use Rattle.ct_card.specs.Ruled.{AreItemRules}
 use Rattle.ct_card.proofs.SortRuleLemmas.{no_sort_rules, more_sort_rules}
 use Rattle.ct_card.proofs.founded.founding_rules.Goals as goal
 

@@ -13,7 +13,7 @@ returns-in_ok-found-in-Some c =
     let small = c.args.small.now in
     let large : IsLargeStep d small s c.in-Some.step = subst (λ (o : Option Step). MatchOption o (HasSmallFields d small s) (IsLargeStep d small s)) c.in-Some.is c.in_ok-step.ensures.found in
     record {
-      layer = λ infinite other. layer_from d k (e.own_constructors d k) (e.own_selectors d k) (e.of_their_sorts d k) (e.of_their_constructors d k) c.args.several.now c.requires.several small c.requires.small s c.in_ok-found-in-Some.found c.in-Some.step c.requires.inside infinite large c.in_ok-found-in-Some.ensures.step c.in_ok-found-in-Some.ensures.departs c.in_ok-found-in-Some.ensures.apart c.in_ok-found-in-Some.ensures.nowhere;
+      layer = λ infinite other. layer_from d k (e.own_constructors d k) (e.own_selectors d k) (e.of_their_sorts d k) (e.of_their_constructors d k) c.args.several.now c.requires.several small c.requires.small s c.in_ok-found-in-Some.found c.in-Some.step c.requires.inside infinite large c.in_ok-found-in-Some.ensures.step c.in_ok-found-in-Some.ensures.departs c.in_ok-found-in-Some.ensures.apart c.in_ok-found-in-Some.ensures.nowhere c.in_ok-found-in-Some.ensures.digit;
     }
 
 pub returns-in-None : goal.returns-in-None

@@ -1,26 +1,28 @@
-use Rattle.std.proofs.Common.{◌≡◌, ◌++◌, ◌∷◌, [], false, append-nil, slice_get, Some, sym, ◌∙◌, ap, subst, arith}
+use Rattle.std.proofs.Common.{◌≡◌, ◌++◌, ◌∷◌, [], Bool, false, append-nil, slice_get, Some, sym, ◌∙◌, ap, subst, arith}
 use Rattle.ct_lemmas.proofs.Lists.{slice_get-last}
 use Rattle.ct_values.specs.Graph.{Nodes}
 use Rattle.ct_values.specs.Agreement.{node_point}
 use Rattle.ct_values.specs.Fitting.{HasNodeSort}
 use Rattle.ct_values.specs.WellFormed.{IsWellFormedGraph}
 use Rattle.ct_card.specs.Defaults.{is_free_sort}
-use Rattle.ct_card.specs.Nth.{IsNthIn}
+use Rattle.ct_card.specs.Descent.{IsWanted}
 use Rattle.ct_card.proofs.WellFormedLemmas.{well_formed_pushed}
 use Rattle.ct_card.proofs.PathLemmas.{Agrees}
 use Rattle.ct_card.proofs.EndLemmas.{can_depart, end_sort}
-use Rattle.ct_card.proofs.LayerLemmas.{come_down_some, end_nth}
+use Rattle.ct_card.proofs.DescentLemmas.{come_down_some}
+use Rattle.ct_card.proofs.LayerLemmas.{end_nth}
 use Rattle.ct_card.proofs.MadeLemmas.{none_from}
 use Rattle.ct_card.proofs.nth.innermost.Goals as goal
 
 pub returns-in-Some : goal.returns-in-Some
 returns-in-Some c =
     let made = c.requires.found c.in-Some.top c.in-Some.is in
+    let wanted = c.args.down.now.wanted in
     record {
       grown = ([], sym (append-nil c.args.g.now));
       well_formed = λ formed. formed;
-      sorted = c.requires.made c.args.down.now.sort c.args.down.now.left c.in-Some.top made;
-      nth = λ ctors seconds are all all_seconds are_made. are_made c.args.down.now.sort c.args.down.now.left c.in-Some.top made;
+      sorted = c.requires.made wanted.sort wanted.number c.in-Some.top made.1;
+      nth = λ ctors seconds are all all_seconds are_made. subst (λ (turn : Bool). IsWanted c.args.sig.now ctors seconds c.args.layers.now (record { sort = wanted.sort; number = wanted.number; turn = turn }) (node_point c.args.g.now c.in-Some.top)) (sym made.0) (are_made wanted.sort wanted.number c.in-Some.top made.1);
     }
 
 pub push_end-requires-clause-can : goal.push_end-requires-clause-can
@@ -29,13 +31,13 @@ push_end-requires-clause-can c = λ other.
     let e = c.structure.ensures in
     let k = c.sorts.ensures.consistent in
     let layers = c.args.layers.now in
-    let down = c.args.down.now in
+    let wanted = c.args.down.now.wanted in
     let last = c.layer_at-last.result in
-    let stored : slice_get layers down.sort ≡ Some last = c.layer_at-last.ensures.value (omega (arith, c.requires.inside, c.requires.layered.long)) in
-    let is = c.requires.layered.each down.sort last stored c.requires.infinite other in
+    let stored : slice_get layers wanted.sort ≡ Some last = c.layer_at-last.ensures.value (omega (arith, c.requires.inside, c.requires.layered.long)) in
+    let is = c.requires.layered.each wanted.sort last stored c.requires.infinite other in
     let none = none_from c.args.down.now.top c.in_default.not-Some in
-    can_depart d k (e.own_constructors d k) (e.own_selectors d k) (e.of_their_sorts d k) (e.of_their_constructors d k) c.args.several.now c.args.ranks.now c.args.base c.args.g.now down.sort c.args.second last.departure last.step.ctor c.requires.inside (is.index, is.listed) is.departs
-    (come_down_some d layers down.sort down.left last (c.requires.end none) other stored)
+    can_depart d k (e.own_constructors d k) (e.own_selectors d k) (e.of_their_sorts d k) (e.of_their_constructors d k) c.args.several.now c.args.ranks.now c.args.base c.args.g.now wanted.sort c.args.second last.departure last.step.ctor c.requires.inside (is.index, is.listed) is.departs
+    (come_down_some d layers wanted last (c.requires.end none) other stored)
     (λ t derived less. (c.requires.room t derived, c.requires.seconds t derived))
 
 pub returns-clause-well_formed : goal.returns-clause-well_formed
@@ -50,14 +52,14 @@ returns-clause-sorted c =
     let k = c.sorts.ensures.consistent in
     let layers = c.args.layers.now in
     let g = c.args.g.now in
-    let down = c.args.down.now in
+    let wanted = c.args.down.now.wanted in
     let last = c.layer_at-last.result in
-    let stored : slice_get layers down.sort ≡ Some last = c.layer_at-last.ensures.value (omega (arith, c.requires.inside, c.requires.layered.long)) in
+    let stored : slice_get layers wanted.sort ≡ Some last = c.layer_at-last.ensures.value (omega (arith, c.requires.inside, c.requires.layered.long)) in
     let pushed = c.in_ok-top.ensures.pushed in
     let node = pushed.0 in
-    let departs = λ (other : is_free_sort d down.sort ≡ false). c.requires.layered.each down.sort last stored c.requires.infinite other in
-    subst (λ (x : Nodes). HasNodeSort d x c.in_ok-top.top (record { 0 = down.sort })) (sym pushed.3)
-    (node, ap (slice_get (g ++ node ∷ [])) c.in_ok-top.ensures.number ∙ slice_get-last g node, end_sort d k (e.own_constructors d k) (e.own_selectors d k) (e.of_their_sorts d k) (e.of_their_constructors d k) c.args.several.now c.args.ranks.now c.args.base down.sort c.args.second down.left last.departure node c.requires.inside (λ other. (last.step.ctor, ((departs other).index, (departs other).listed), (departs other).departs)) pushed.1)
+    let departs = λ (other : is_free_sort d wanted.sort ≡ false). c.requires.layered.each wanted.sort last stored c.requires.infinite other in
+    subst (λ (x : Nodes). HasNodeSort d x c.in_ok-top.top (record { 0 = wanted.sort })) (sym pushed.3)
+    (node, ap (slice_get (g ++ node ∷ [])) c.in_ok-top.ensures.number ∙ slice_get-last g node, end_sort d k (e.own_constructors d k) (e.own_selectors d k) (e.of_their_sorts d k) (e.of_their_constructors d k) c.args.several.now c.args.ranks.now c.args.base wanted.sort c.args.second wanted.number last.departure node c.requires.inside (λ other. (last.step.ctor, ((departs other).index, (departs other).listed), (departs other).departs)) pushed.1)
 
 pub returns-clause-nth : goal.returns-clause-nth
 returns-clause-nth c = λ ctors seconds are all all_seconds are_made.
@@ -65,10 +67,10 @@ returns-clause-nth c = λ ctors seconds are all all_seconds are_made.
     let laws : Agrees = record { always = c.agreement.ensures.always; turned = c.agreement.ensures.turned; grown = c.agreement.ensures.always_grown } in
     let layers = c.args.layers.now in
     let g = c.args.g.now in
-    let down = c.args.down.now in
+    let wanted = c.args.down.now.wanted in
     let last = c.layer_at-last.result in
-    let stored : slice_get layers down.sort ≡ Some last = c.layer_at-last.ensures.value (omega (arith, c.requires.inside, c.requires.layered.long)) in
+    let stored : slice_get layers wanted.sort ≡ Some last = c.layer_at-last.ensures.value (omega (arith, c.requires.inside, c.requires.layered.long)) in
     let pushed = c.in_ok-top.ensures.pushed in
-    let departs = λ (other : is_free_sort d down.sort ≡ false). c.requires.layered.each down.sort last stored c.requires.infinite other in
-    subst (λ (x : Nodes). IsNthIn d ctors seconds layers down.sort down.left (node_point x c.in_ok-top.top)) (sym pushed.3)
-    (end_nth laws d c.args.several.now c.args.ranks.now ctors seconds layers c.args.base are c.requires.several.long g c.args.second down.sort down.left c.in_ok-top.top last pushed.0 c.len.ensures.closed c.in_ok-top.ensures.number all_seconds stored departs (c.requires.end (none_from c.args.down.now.top c.in_default.not-Some)) pushed.1)
+    let departs = λ (other : is_free_sort d wanted.sort ≡ false). c.requires.layered.each wanted.sort last stored c.requires.infinite other in
+    subst (λ (x : Nodes). IsWanted d ctors seconds layers wanted (node_point x c.in_ok-top.top)) (sym pushed.3)
+    (end_nth laws d c.args.several.now c.args.ranks.now ctors seconds layers c.args.base are c.requires.several.long g c.args.second wanted c.in_ok-top.top last pushed.0 c.len.ensures.closed c.in_ok-top.ensures.number all_seconds stored departs (c.requires.end (none_from c.args.down.now.top c.in_default.not-Some)) pushed.1)

@@ -1,7 +1,7 @@
-use Rattle.std.proofs.Common.{List, ◌++◌, ◌∷◌, [], subst, arith}
+use Rattle.std.proofs.Common.{List, subst, arith}
 use Rattle.ct_card.specs.declared.chain.Rule.{Rule}
 use Rattle.ct_card.specs.Fields.{sort_fields}
-use Rattle.ct_card.specs.Ruled.{AreItemRules, AreSortRules, IsCountRule, IsFieldRule}
+use Rattle.ct_card.specs.Ruled.{AreItemRules, IsCountRule, IsFieldRule}
 use Rattle.ct_card.proofs.SortRuleLemmas.{no_sort_rules, more_sort_rules}
 use Rattle.ct_card.proofs.several.several_rules.Goals as goal
 

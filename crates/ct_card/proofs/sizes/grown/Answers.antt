@@ -1,8 +1,5 @@
-use Rattle.std.proofs.Common.{◌≡◌, ℕ, List, length, sym, ◌∙◌, ap, subst}
+use Rattle.std.proofs.Common.{ℕ, List, length, sym, ◌∙◌, ap, subst}
 use Rattle.ct_sorts.specs.declared.ids.CtorId.{CtorId}
-use Rattle.ct_card.specs.declared.size.Size.{Size}
-use Rattle.ct_card.specs.declared.departure.Departure.{Departure}
-use Rattle.ct_card.specs.declared.departure.Layer.{Layer}
 use Rattle.ct_card.specs.Defaults.{AreChosen}
 use Rattle.ct_card.specs.Extended.{AreGrownBy, IsChosen, IsSecond, IsLayerOf}
 use Rattle.ct_card.specs.Ranked.{AreSmall}

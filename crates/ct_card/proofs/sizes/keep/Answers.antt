@@ -1,4 +1,4 @@
-use Rattle.std.proofs.Common.{◌≡◌, ◌<◌, length, slice_get, Some, refl, arith}
+use Rattle.std.proofs.Common.{refl, arith}
 use Rattle.std.proofs.lemmas.Option.{slice_get_read}
 use Rattle.ct_card.proofs.CutLemmas.{kept_skip, kept_more}
 use Rattle.ct_card.proofs.sizes.keep.Goals as goal

@@ -1,4 +1,4 @@
-use Rattle.std.proofs.Common.{◌≤◌, List, ℕ, length, refl, sym, ◌∙◌, subst, arith}
+use Rattle.std.proofs.Common.{List, ℕ, refl, sym, ◌∙◌, subst, arith}
 use Rattle.ct_card.specs.Extended.{AreKept}
 use Rattle.ct_card.specs.Rules.{IsOrder}
 use Rattle.ct_card.proofs.CutLemmas.{kept_start, kept_order, kept_cut}

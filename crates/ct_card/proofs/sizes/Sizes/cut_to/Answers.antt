@@ -1,4 +1,4 @@
-use Rattle.std.proofs.Common.{◌≡◌, ◌≤◌, ℕ, List, length, slice_get, Some, sym, ◌∙◌, ap, subst, arith}
+use Rattle.std.proofs.Common.{◌≡◌, ◌≤◌, length, sym, ◌∙◌, ap, subst, arith}
 use Rattle.ct_card.specs.Extended.{IsLater, AreCut}
 use Rattle.ct_card.specs.Sizes.{Table, AreSizes}
 use Rattle.ct_card.proofs.CutLemmas.{first_of_list}

@@ -1,9 +1,7 @@
-use Rattle.std.proofs.Common.{◌≡◌, ℕ, List, Option, sym, ◌∙◌, ap, subst}
-use Rattle.ct_values.specs.Agreement.{node_point}
+use Rattle.std.proofs.Common.{ℕ, List, Option, sym, ◌∙◌, ap, subst}
 use Rattle.ct_card.specs.declared.made.Made.{Made}
 use Rattle.ct_card.specs.Built.{HaveTheirSorts}
 use Rattle.ct_card.specs.Made.{HaveMadeSorts, Prepared, IsPrepared}
-use Rattle.ct_card.specs.Nth.{IsNthIn}
 use Rattle.ct_card.specs.Sizes.{Table}
 use Rattle.ct_card.proofs.MadeLemmas.{nth_of_table, prepared_more}
 use Rattle.ct_card.proofs.PathLemmas.{Agrees}
