@@ -1,5 +1,5 @@
 //! Trims a derivation to the lines on which its last line rests.
-ghost use Rattle.std.specs.Prelude.{◌≡◌, ◌<◌, ℕ, suc, [], ◌∷◌, ◌++◌, List, length, All, OnOk};
+ghost use Rattle.std.specs.Prelude.{◌≡◌, ◌<◌, ◌≤◌, ℕ, suc, [], ◌∷◌, ◌++◌, List, length, All, IfOk, OnOk};
 ghost use Rattle.ct_terms.specs.declared.ids.TermId.{TermId};
 ghost use Rattle.ct_log.specs.Acceptance.{IsAccepted, AreAccepted, Passes, clauses_of};
 ghost use Rattle.ct_core.specs.Cited.{hints_of};
@@ -16,8 +16,14 @@ use std::alloc::Global;
 /// rest on (as drat-trim does it; Heule, Hunt and Wetzler 2013). The lines are renumbered with their hints. The time is
 /// linear in the lines, and neither terms nor declarations are copied.
 ///
-/// Its only error is out of memory, after which the derivation holds some of the lines and is of no further use.
-pub fn trim(alloc: Global, derivation: &mut Derivation, kept: u64) -> Result<(), CoreError>
+/// Gives how many of the lines up to the number `counted` are left. Its only error is out of memory, after which the derivation
+/// holds some of the lines and is of no further use.
+pub fn trim(
+    alloc: Global,
+    derivation: &mut Derivation,
+    kept: u64,
+    counted: usize,
+) -> Result<usize, CoreError>
     // The lines are exactly those that are cited, in order.
     ensures trimmed { OnOk result (IsTrimmed kept derivation.old.rec.lines derivation.new.rec.lines) }
 
@@ -27,12 +33,34 @@ pub fn trim(alloc: Global, derivation: &mut Derivation, kept: u64) -> Result<(),
     // Where it passed, it passes.
     ensures passes { OnOk result (Passes derivation.old.declarations derivation.old.rec.terms derivation.old.asserts derivation.old.rec.lines
         → Passes derivation.old.declarations derivation.old.rec.terms derivation.old.asserts derivation.new.rec.lines) }
+
+    // Those that are counted are among them.
+    ensures within { IfOk result (λ count. count ≤ length derivation.new.rec.lines) }
 {
     let marks = cited_marks(alloc, derivation.rec().lines(), kept)?;
     let lines = derivation.take_lines(alloc);
     put_back(alloc, lines, marks.as_slice(), derivation)?;
-    let _rec = derivation.rec();
-    Ok(())
+    let count = set_marks(marks.as_slice(), counted);
+    let rec = derivation.rec();
+    Ok(least(count, rec.lines().len()))
+}
+
+// How many of the marks of the first numbers are set, up to this one.
+fn set_marks(marks: &[bool], last: usize) -> usize {
+    let mut count = 0;
+    for index in 0..marks.len() {
+        if marks[index] && index <= last && count <= index {
+            count += 1;
+        }
+    }
+    count
+}
+
+// The lesser one.
+fn least(a: usize, b: usize) -> usize
+    ensures within { result ≤ b }
+{
+    if a < b { a } else { b }
 }
 
 // Adds the lines that are marked, each with its hints renumbered, to a derivation that has none.

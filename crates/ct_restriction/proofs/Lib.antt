@@ -1,5 +1,6 @@
 mod RenamedLemmas
 mod MarkLemmas
+mod AgreeLemmas
 mod CopyLemmas
 mod FoundLemmas
 mod MadeLemmas

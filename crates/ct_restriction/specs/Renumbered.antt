@@ -1,5 +1,5 @@
 -- Numbers in one table of the terms of another: which terms are equal, and what is known of them.
-use Rattle.std.specs.Prelude.{◌≡◌, ◌+◌, ◌<◌, ◌≤◌, ◌↔◌, ◌⊎◌, Bool, true, false, List, [], ◌∷◌, ◌++◌, length, Option, None, Some, slice_get, Contains}
+use Rattle.std.specs.Prelude.{◌≡◌, ℕ, ◌+◌, ◌<◌, ◌≤◌, ◌↔◌, ◌⊎◌, Bool, true, false, List, [], ◌∷◌, ◌++◌, length, Option, None, Some, slice_get, Contains}
 use Rattle.ct_terms.specs.declared.ids.TermId.{TermId}
 use Rattle.ct_terms.specs.Terms.{Terms, most_terms}
 use Rattle.ct_terms.specs.CoreTree.{CoreTree, term_at}
@@ -12,6 +12,10 @@ pub record IsEqualTerm (from to : Terms) (t u : TermId) : Type 0 where
   pub there : t.0 < length from
   pub within : u.0 < length to
   pub tree : term_at to u ≡ term_at from t
+
+-- the numbers in the list, so many of them, are those of terms that are equal to the first terms of the first table, in order
+abbrev pub AreNumbersOf : Terms → Terms → List TermId → ℕ → Type 0
+AreNumbersOf from to numbers count = (t u : TermId) → t.0 < count → slice_get numbers t.0 ≡ Some u → IsEqualTerm from to t u
 
 -- The table has no room for these terms of another: more than 400,000 different terms stand in it or are subterms of these.
 pub record HasNoRoom (table from : Terms) (roots : List TermId) : Type 0 where

@@ -34,8 +34,8 @@ pub fn show_trimmed(
 fn cut(alloc: Global, derivation: &mut Derivation, kept: u64) -> Result<(), CaseError>
     ensures declarations { OnOk result (derivation.new.declarations ≡ derivation.old.declarations) }
 {
-    match trim(alloc, derivation, kept) {
-        Ok(()) => Ok(()),
+    match trim(alloc, derivation, kept, 0) {
+        Ok(_) => Ok(()),
         Err(CoreError) => Err(CaseError::NoMemory),
     }
 }

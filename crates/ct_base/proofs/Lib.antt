@@ -1,0 +1,6 @@
+mod StageLemmas
+mod RootLemmas
+mod BackLemmas
+mod GrowLemmas
+mod CloseLemmas
+mod BaseLemmas

@@ -1,0 +1,11 @@
+use Rattle.std.proofs.Common.{◌≤◌, ◌-◌, length, take, All}
+use Rattle.ct_base.proofs.cutting.count_within.Given as goal
+
+abbrev pub invariant-loop-count : goal.invariant-loop-count
+invariant-loop-count l = record {
+  within : l.count ≤ length l.stages;
+  few : All (λ s. s.roots ≤ l.roots) (take l.count l.stages);
+}
+
+abbrev pub decreases-loop-count : goal.decreases-loop-count
+decreases-loop-count l = length l.stages - l.count
