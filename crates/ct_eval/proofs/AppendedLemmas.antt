@@ -27,7 +27,7 @@ use Rattle.ct_eval.specs.LookUp.{are_same, row_for, look_up}
 use Rattle.ct_eval.specs.Evaluation.{is_same, table_value, select, core_value, layer, value_below, value_of}
 use Rattle.ct_eval.specs.Truth.{truth_value}
 use Rattle.ct_eval.specs.Appended.{IsRowOver, IsTableOver, AreTablesOver, IsClosedInterp, with_nodes}
-use Rattle.ct_eval.proofs.CongruenceLemmas.{Alike, look_up_across, same_alike}
+use Rattle.ct_eval.proofs.CongruenceLemmas.{Alike, rows_alike, look_up_across, same_alike}
 
 -- what a graph that grows keeps
 pub record Growth : Type 0 where
@@ -92,7 +92,7 @@ choice_over g true v w left right = left
 choice_over g false v w left right = right
 
 -- values through a function that are all over the graph
-args_over : (g : Nodes) (value : TermId → Value) → ((t : TermId) → IsOver g (value t)) → (ts : List TermId) → AllByRecursion (IsOver g) (map value ts)
+pub args_over : (g : Nodes) (value : TermId → Value) → ((t : TermId) → IsOver g (value t)) → (ts : List TermId) → AllByRecursion (IsOver g) (map value ts)
 args_over g value over [] = tt
 args_over g value over (t ∷ ts) = (over t, args_over g value over ts)
 
@@ -130,6 +130,10 @@ module _ (theorems : Alike) (growth : Growth) where
     pub look_up_appended : (table : Table) (vs : List Value) → IsTableOver g table → AllByRecursion (IsOver g) vs → look_up (g ++ more) table vs ≡ look_up g table vs
     look_up_appended table vs stored over =
         sym (look_up_across theorems g (g ++ more) closed still table vs vs (rows_stored table.rows stored.rows) (values_stored vs over))
+
+    pub row_for_appended : (table : Table) (vs : List Value) → IsTableOver g table → AllByRecursion (IsOver g) vs → row_for (g ++ more) table.rows vs ≡ row_for g table.rows vs
+    row_for_appended table vs stored over =
+        sym (rows_alike theorems g (g ++ more) closed still table.rows vs vs (rows_stored table.rows stored.rows) (values_stored vs over))
 
     built_appended : (c : _) (v : Value) → IsOver g v → is_built (g ++ more) c v ≡ is_built g c v
     built_appended c v over = ap (is_head c) (growth.head g more v over)

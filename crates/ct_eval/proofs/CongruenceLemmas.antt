@@ -78,7 +78,7 @@ module _ (theorems : Alike) where
         (same_alike (node_point g n) (point g v) (node_point h n) (point h w) closed_g closed_g closed_h closed_h stored.0 alike.0)
         (args_alike ns vs ws stored.1 alike.1)
 
-    rows_alike : (rows : List Row) (vs ws : List Value) → AllByRecursion (λ row. AllByRecursion IsStored row.args) rows → AllZip AgreeAlways (map (point g) vs) (map (point h) ws) → row_for g rows vs ≡ row_for h rows ws
+    pub rows_alike : (rows : List Row) (vs ws : List Value) → AllByRecursion (λ row. AllByRecursion IsStored row.args) rows → AllZip AgreeAlways (map (point g) vs) (map (point h) ws) → row_for g rows vs ≡ row_for h rows ws
     rows_alike [] vs ws stored alike = refl
     rows_alike (row ∷ rows) vs ws stored alike =
         ap₂ (λ (b : Bool) (o : Option NodeId). if b then Some row.result else o) (args_alike row.args vs ws stored.0 alike) (rows_alike rows vs ws stored.1 alike)

@@ -1,18 +1,21 @@
 -- The map of rows: its test tells keys apart, and one more row gives what one more row of the table gives.
-use Rattle.std.proofs.Common.{◌≡◌, ℕ, ◌↔◌, ◌⊎◌, Bool, true, false, cond, IsTrue, List, [], ◌∷◌, ◌++◌, Option, Some, None, nat_eq, Decides, refl, sym, ap, ap₂, subst, ◌∙◌, inl, inr, true≢false}
+use Rattle.std.proofs.Common.{◌≡◌, ℕ, ◌<◌, length, ◌↔◌, ◌⊎◌, Bool, true, false, cond, IsTrue, List, [], ◌∷◌, ◌++◌, Option, Some, None, nat_eq, Decides, refl, sym, ap, ap₂, subst, ◌∙◌, inl, inr, true≢false}
+use Rattle.std.specs.List.{AllByRecursion}
 use Rattle.std.proofs.lemmas.Bool.Decides.{Decides-and, Decides-eqb}
+use Rattle.std.proofs.lemmas.List.{append-nil}
 use Rattle.std.proofs.lemmas.Option.{none-some, same_Some}
 use lib.Pointwise.{pointwise_decides}
 use Rattle.indexmap.specs.IndexMap.{IndexMap, get}
 use Rattle.ct_values.specs.declared.node.NodeId.{NodeId}
 use Rattle.ct_values.specs.Graph.{Nodes, IsClosed}
 use Rattle.ct_values.specs.NodeIdTest.{same_node, same_nodes}
-use Rattle.ct_values.specs.Value.{Value}
+use Rattle.ct_values.specs.Value.{Value, reference, IsOver}
 use Rattle.ct_values.specs.Agreement.{Point, point, node_point, same, AgreeAlways}
 use Rattle.ct_values.specs.Sharing.{IsRepresentative}
 use Rattle.ct_eval.specs.declared.interp.Row.{Row}
+use Rattle.ct_eval.specs.declared.interp.Table.{Table}
 use Rattle.ct_eval.specs.declared.index.RowKey.{RowKey}
-use Rattle.ct_eval.specs.Index.{AreRepresentatives, AreRepresentativeNodes, HasRows, row_key, same_row_key}
+use Rattle.ct_eval.specs.Index.{AreRepresentatives, AreRepresentativeNodes, HasRows, IsIndex, AreIndexed, row_key, same_row_key}
 use Rattle.ct_eval.specs.LookUp.{are_same, row_for}
 use Rattle.ct_eval.specs.Valued.{IsLonger}
 
@@ -30,7 +33,7 @@ Decides-same_node m n =
     (λ h i. record { 0 = d.0 h i }, λ e. d.1 (ap (λ k. k.0) e))
 
 -- the derived test of two keys tells whether they are the same
-Decides-same_row_key : (a b : RowKey) → Decides (same_row_key a b) (a ≡ b)
+pub Decides-same_row_key : (a b : RowKey) → Decides (same_row_key a b) (a ≡ b)
 Decides-same_row_key a b =
     let both = Decides-and (nat_eq a.table b.table) (same_nodes a.args b.args) (Decides-eqb a.table b.table) (pointwise_decides Decides-same_node a.args b.args) in
     (λ h i. record { table = (both.0 h).0 i; args = (both.0 h).1 i }, λ e. both.1 (ap (λ k. k.table) e, ap (λ k. k.args) e))
@@ -137,3 +140,22 @@ HasRows-push {S} theorems g closed t rows row representatives index more row_fir
 -- the rows of a table stay where its keys have what they had
 pub HasRows-same : {S : Type 0} (g : Nodes) (t : ℕ) (rows : List Row) (index more : IndexMap RowKey NodeId S) → ((args : List NodeId) → get same_row_key more (row_key t args) ≡ get same_row_key index (row_key t args)) → HasRows g t rows index → HasRows g t rows more
 HasRows-same g t rows index more elsewhere old longer args values remaining first = elsewhere args ∙ old longer args values remaining first
+
+-- representatives of nodes of a graph are theirs in a longer one too
+module _ (theorems : Theorems) (turned : (p q : Point) → AgreeAlways p q → AgreeAlways q p) (grown : (g more : Nodes) (v : Value) → IsClosed g → IsOver g v → AgreeAlways (point (g ++ more) v) (point g v)) (alike : (g : Nodes) (p q : Point) (n : NodeId) → AgreeAlways p q → IsRepresentative g p n → IsRepresentative g q n) (g longer : Nodes) (closed : IsClosed g) (remaining : IsLonger g longer) where
+  IsRepresentative-longer : (m n : NodeId) → n.0 < length g → IsRepresentative g (node_point g n) m → IsRepresentative longer (node_point longer n) m
+  IsRepresentative-longer m n within first =
+      let h : Nodes = g ++ remaining.0 in
+      subst (λ (k : Nodes). IsRepresentative k (node_point k n) m) (sym remaining.1)
+      (alike h (node_point g n) (node_point h n) m (turned (node_point h n) (node_point g n) (grown g remaining.0 (reference n) closed within)) (theorems.lasting g remaining.0 (node_point g n) m closed first))
+
+  pub AreRepresentativeNodes-longer : (representatives nodes : List NodeId) → AllByRecursion (λ n. n.0 < length g) nodes → AreRepresentativeNodes g representatives nodes → AreRepresentativeNodes longer representatives nodes
+  AreRepresentativeNodes-longer [] [] within first = first
+  AreRepresentativeNodes-longer [] (n ∷ ns) within first = first
+  AreRepresentativeNodes-longer (m ∷ ms) [] within first = first
+  AreRepresentativeNodes-longer (m ∷ ms) (n ∷ ns) within first =
+      (IsRepresentative-longer m n within.0 first.0, AreRepresentativeNodes-longer ms ns within.1 first.1)
+
+-- a map that keeps the rows has them
+pub AreIndexed-index : {S : Type 0} (g : Nodes) (tables : List Table) (index : IndexMap RowKey NodeId S) → IsClosed g → AreIndexed g tables index → IsIndex g tables index
+AreIndexed-index g tables index closed kept t table at = kept.rows t table at g closed ([], sym (append-nil g))

@@ -1,9 +1,9 @@
 -- The rows of tables in one map, from the table and the representatives of the arguments to the result of the first row.
-use Rattle.std.specs.Prelude.{◌≡◌, ℕ, Bool, List, Some, slice_get}
+use Rattle.std.specs.Prelude.{◌≡◌, ℕ, ◌≤◌, Bool, List, length, Some, None, slice_get}
 use Rattle.std.specs.List.{AllZip}
 use Rattle.indexmap.specs.IndexMap.{IndexMap, get}
 use Rattle.ct_values.specs.declared.node.NodeId.{NodeId}
-use Rattle.ct_values.specs.Graph.{Nodes}
+use Rattle.ct_values.specs.Graph.{Nodes, IsClosed}
 use Rattle.ct_values.specs.Value.{Value}
 use Rattle.ct_values.specs.Agreement.{point, node_point}
 use Rattle.ct_values.specs.Sharing.{IsRepresentative}
@@ -40,3 +40,12 @@ HasRows g t rows index = (longer : Nodes) (args : List NodeId) (values : List Va
 -- the map has the rows of each table
 abbrev pub IsIndex : {S : Type 0} → Nodes → List Table → IndexMap RowKey NodeId S → Type 0
 IsIndex g tables index = (t : ℕ) (table : Table) → slice_get tables t ≡ Some table → HasRows g t table.rows index
+
+-- it has them also where nodes are added to the graph
+abbrev pub KeepsRows : {S : Type 0} → Nodes → ℕ → List Row → IndexMap RowKey NodeId S → Type 0
+KeepsRows g t rows index = (longer : Nodes) → IsClosed longer → IsLonger g longer → HasRows longer t rows index
+
+-- the map has the rows of each table, also where nodes are added to the graph, and no rows of other tables
+pub record AreIndexed {S : Type 0} (g : Nodes) (tables : List Table) (index : IndexMap RowKey NodeId S) : Type 0 where
+  pub rows : (t : ℕ) (table : Table) → slice_get tables t ≡ Some table → KeepsRows g t table.rows index
+  pub only : (t : ℕ) (args : List NodeId) → length tables ≤ t → get same_row_key index (row_key t args) ≡ None

@@ -2,7 +2,7 @@
 //!
 //! A row is found by its table and the representatives of its arguments. Of the rows with one key
 //! the first stays.
-ghost use Rattle.std.specs.Prelude.{◌≡◌, ◌<◌, ◌⊎◌, ℕ, List, [], ◌∷◌, ◌++◌, length, All, Some, None, slice_get, IfOk, OnOk};
+ghost use Rattle.std.specs.Prelude.{◌≡◌, ◌<◌, ◌≤◌, ◌⊎◌, ℕ, List, [], ◌∷◌, ◌++◌, length, All, Some, None, slice_get, IfOk, OnOk};
 ghost use Rattle.indexmap.specs.IndexMap.{get};
 ghost use Rattle.ct_values.specs.declared.node.NodeId.{NodeId};
 ghost use Rattle.ct_values.specs.Value.{Value};
@@ -10,7 +10,7 @@ ghost use Rattle.ct_values.specs.Graph.{Nodes};
 ghost use Rattle.ct_eval.specs.declared.index.RowKey.{RowKey};
 ghost use Rattle.ct_eval.specs.declared.interp.Row.{Row};
 ghost use Rattle.ct_eval.specs.declared.interp.Table.{Table};
-ghost use Rattle.ct_eval.specs.Index.{IsIndex, HasRows, AreRepresentatives, AreRepresentativeNodes, row_key, same_row_key};
+ghost use Rattle.ct_eval.specs.Index.{IsIndex, KeepsRows, AreIndexed, AreRepresentatives, AreRepresentativeNodes, row_key, same_row_key};
 ghost use Rattle.ct_eval.specs.LookUp.{look_up};
 ghost use Rattle.ct_eval.specs.Valued.{IsLonger};
 
@@ -22,25 +22,23 @@ use std::alloc::Global;
 
 /// The table of a row, and the representatives of its arguments.
 #[derive(Debug, Drop, PartialEq, Eq, Hash)]
-pub(crate) struct RowKey {
-    pub(crate) table: u64,
-    pub(crate) args: NodeIds,
+pub struct RowKey {
+    /// The number of the table.
+    pub table: u64,
+    /// The representatives of the arguments, in order.
+    pub args: NodeIds,
 }
 
 /// The results of rows, by their keys.
-pub(crate) type Index = IndexMap<RowKey, NodeId>;
+pub type Index = IndexMap<RowKey, NodeId>;
 
 /// The first row of each key, of all the tables.
-pub(crate) fn indexed(
-    alloc: Global,
-    shared: &SharedGraph,
-    tables: &[Table],
-) -> Result<Index, EvalError>
+pub fn indexed(alloc: Global, shared: &SharedGraph, tables: &[Table]) -> Result<Index, EvalError>
     requires within { (t : ℕ) (table : Table) (r : ℕ) (row : Row)
         → slice_get tables.now t ≡ Some table
         → slice_get table.rows r ≡ Some row
         → All (λ n. n.0 < length shared.now) row.args }
-    ensures index { IfOk result (IsIndex shared.now tables.now) }
+    ensures index { IfOk result (AreIndexed shared.now tables.now) }
 {
     let mut index = IndexMap::new(alloc);
     for t in 0..tables.len() {
@@ -80,7 +78,7 @@ fn index_rows(
     index: &mut Index,
 ) -> Result<(), EvalError>
     requires within { (r : ℕ) (row : Row) → slice_get rows.now r ≡ Some row → All (λ n. n.0 < length shared.now) row.args }
-    ensures rows { OnOk result (HasRows shared.now number [] index.old → HasRows shared.now number rows.now index.new) }
+    ensures rows { OnOk result (KeepsRows shared.now number [] index.old → KeepsRows shared.now number rows.now index.new) }
     ensures others { OnOk result ((other : ℕ) (args : List NodeId)
         → (other ≡ number → ⊥)
         → get same_row_key index.new (row_key other args) ≡ get same_row_key index.old (row_key other args)) }
@@ -101,8 +99,8 @@ fn index_row(
 ) -> Result<(), EvalError>
     requires within { All (λ n. n.0 < length shared.now) row.now.args }
     ensures added { OnOk result ((rows : List Row)
-        → HasRows shared.now number rows index.old
-        → HasRows shared.now number (rows ++ row.now ∷ []) index.new) }
+        → KeepsRows shared.now number rows index.old
+        → KeepsRows shared.now number (rows ++ row.now ∷ []) index.new) }
     ensures others { OnOk result ((other : ℕ) (args : List NodeId)
         → (other ≡ number → ⊥)
         → get same_row_key index.new (row_key other args) ≡ get same_row_key index.old (row_key other args)) }
@@ -136,8 +134,8 @@ fn representatives(
     Ok(list)
 }
 
-// Puts a result under a key, unless there is one.
-fn insert_row(index: &mut Index, key: RowKey, node: NodeId) -> Result<(), EvalError>
+/// Puts a result under a key, unless there is one.
+pub fn insert_row(index: &mut Index, key: RowKey, node: NodeId) -> Result<(), EvalError>
     ensures stay { OnOk result ((k : RowKey) (n : NodeId)
         → get same_row_key index.old k ≡ Some n
         → get same_row_key index.new k ≡ Some n) }
@@ -155,8 +153,8 @@ fn insert_row(index: &mut Index, key: RowKey, node: NodeId) -> Result<(), EvalEr
     }
 }
 
-// What the map has under a key.
-fn known(index: &Index, key: &RowKey) -> Option<NodeId>
+/// What the map has under a key.
+pub fn known(index: &Index, key: &RowKey) -> Option<NodeId>
     ensures value { result ≡ get same_row_key index.now key.now }
 {
     index.get(key).copied()

@@ -37,8 +37,11 @@ mod valuation;
 
 pub use assertions::holds;
 pub use error::EvalError;
+pub use index::{Index, RowKey, indexed, insert_row, known};
 pub use interp::{Interp, Row, Rows, Table, Tables, Valuation};
+pub use nodes::is_built;
 pub use proper::is_proper;
+pub use term::node_of_term;
 pub use theorems::{
     appended_nodes, congruence, constructor_terms, evaluation, truth_values, values_of_trees,
 };

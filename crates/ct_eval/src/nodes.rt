@@ -56,7 +56,7 @@ pub(crate) fn nodes_of(
 }
 
 /// Whether the node is built by this constructor.
-pub(crate) fn is_built(graph: &Graph, c: CtorId, n: NodeId) -> bool
+pub fn is_built(graph: &Graph, c: CtorId, n: NodeId) -> bool
     requires within { n.0 < length graph.now }
     ensures value { result ≡ is_built graph.now c (reference n) }
 {

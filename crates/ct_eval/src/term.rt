@@ -31,7 +31,7 @@ use std::alloc::Global;
 
 /// The node of a term. `nodes` has those of the terms under it, by their numbers, and the two maps have the rows of the
 /// interpretation's tables.
-pub(crate) fn node_of_term(
+pub fn node_of_term(
     alloc: Global,
     sig: &Signature,
     interp: &Interp,

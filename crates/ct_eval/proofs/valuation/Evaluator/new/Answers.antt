@@ -1,10 +1,11 @@
 use Rattle.std.proofs.Common.{◌∙◌, List, length, sym, ap, subst, arith}
 use Rattle.ct_values.specs.declared.node.NodeId.{NodeId}
-use Rattle.ct_values.specs.Graph.{Nodes}
+use Rattle.ct_values.specs.Graph.{Nodes, IsClosed}
 use Rattle.ct_eval.specs.declared.interp.Table.{Table}
 use Rattle.ct_eval.specs.Index.{IsIndex}
 use Rattle.ct_eval.specs.EvaluationStep.{HaveNodes}
-use Rattle.ct_eval.proofs.ValuationLemmas.{functions-within, selectors-within, HaveNodes-start}
+use Rattle.ct_eval.proofs.IndexLemmas.{AreIndexed-index}
+use Rattle.ct_eval.proofs.ValuationLemmas.{FitsGraph-closed, functions-within, selectors-within, HaveNodes-start}
 use Rattle.ct_eval.proofs.valuation.Evaluator.new.Goals as goal
 
 pub indexed-requires : goal.indexed-requires
@@ -25,6 +26,7 @@ pub returns : goal.returns
 returns c = record {
   begun = λ terms.
       let same = c.in_ok-shared.ensures.value ∙ c.in_ok-copy.ensures.value in
+      let closed : IsClosed c.in_ok-shared.shared = subst IsClosed (sym same) (FitsGraph-closed c.args.sig.now c.args.interp.now.graph c.requires.proper.graph.fits) in
       record {
         found =
             subst (λ (nodes : List NodeId). HaveNodes c.args.sig.now c.args.interp.now terms c.in_ok-shared.shared nodes) (sym c.new-2.ensures.items)
@@ -32,9 +34,9 @@ returns c = record {
         few = let none = ap (λ (nodes : List NodeId). length nodes) c.new-2.ensures.items in omega arith;
         functions =
             subst (λ (g : Nodes). IsIndex g c.args.interp.now.funs c.in_ok-funs.funs) same
-            (subst (λ (tables : List Table). IsIndex c.in_ok-shared.shared tables c.in_ok-funs.funs) c.as_slice.ensures.value c.in_ok-funs.ensures.index);
+            (subst (λ (tables : List Table). IsIndex c.in_ok-shared.shared tables c.in_ok-funs.funs) c.as_slice.ensures.value (AreIndexed-index c.in_ok-shared.shared c.as_slice.result.now c.in_ok-funs.funs closed c.in_ok-funs.ensures.index));
         selectors =
             subst (λ (g : Nodes). IsIndex g c.args.interp.now.offs c.in_ok-offs.offs) same
-            (subst (λ (tables : List Table). IsIndex c.in_ok-shared.shared tables c.in_ok-offs.offs) c.as_slice-2.ensures.value c.in_ok-offs.ensures.index);
+            (subst (λ (tables : List Table). IsIndex c.in_ok-shared.shared tables c.in_ok-offs.offs) c.as_slice-2.ensures.value (AreIndexed-index c.in_ok-shared.shared c.as_slice-2.result.now c.in_ok-offs.offs closed c.in_ok-offs.ensures.index));
       };
 }

@@ -1,0 +1,4 @@
+pub mod Theorems
+pub mod Growth
+pub mod Trial
+pub mod LastModel
