@@ -16,6 +16,7 @@ pub mod TrialLemmas
 pub mod EvaluatedLemmas
 pub mod RowLemmas
 pub mod SeenLemmas
+pub mod SmallLemmas
 pub mod KnownLemmas
 pub mod BuildLemmas
 pub mod AnswerLemmas

@@ -7,5 +7,6 @@ pub mod Trials
 pub mod Chosen
 pub mod Buildable
 pub mod Owners
+pub mod Rounds
 pub mod Seen
 pub mod Known

@@ -110,8 +110,8 @@ fn add_selection(
     }
 }
 
-// Whether the class of the term has a constructor term of this constructor.
-fn is_of(classes: &Classes, t: TermId, c: CtorId) -> bool
+/// Whether the class of the term has a constructor term of this constructor.
+pub(crate) fn is_of(classes: &Classes, t: TermId, c: CtorId) -> bool
     requires quiet { IsQuiet classes.now }
     requires inside { t.0 < length classes.now.terms }
     ensures value { MatchBool result ((args : List TermId) × IsBuiltBy classes.now t c args) ((args : List TermId) → IsBuiltBy classes.now t c args → ⊥) }

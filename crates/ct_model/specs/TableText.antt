@@ -1,6 +1,6 @@
 -- How the table of a function is written, as its definition (SMT-LIB 2.7, section 4.2.3, `define-fun`), and the table of a selector where
 -- it is wrongly applied, in the same form. The names `@x0`, `@x1` of parameters and the word `@off` are this project's choice.
-use Rattle.std.specs.Prelude.{◌≡◌, ℕ, suc, List, [], ◌∷◌, Some, slice_get, codes}
+use Rattle.std.specs.Prelude.{◌≡◌, ℕ, suc, Bool, true, false, ◌==◌, List, [], ◌∷◌, Option, None, Some, slice_get, codes}
 use Rattle.std.specs.List.{AllZip}
 use Rattle.ct_sorts.specs.declared.ids.SortId.{SortId}
 use Rattle.ct_sorts.specs.Declarations.{Declarations, Constructor, Selector, Function}
@@ -42,29 +42,68 @@ conjunction [] = listed (codes "and" ∷ [])
 conjunction (e ∷ []) = e
 conjunction (e ∷ (f ∷ es)) = listed (codes "and" ∷ (e ∷ (f ∷ es)))
 
--- the texts of a row: those of its arguments, and that of its result
+-- the texts of a row: those of its arguments, and that of its result; and whether it stands together with the row after it
 pub record RowTexts : Type 0 where
   pub args : List (List ℕ)
   pub result : List ℕ
+  pub joins : Bool
 
 -- that the parameters are the row's arguments
 abbrev pub row_test : RowTexts → List ℕ
 row_test row = conjunction (equations 0 row.args)
 
--- `(ite test result rest)` for each row in order, and the default where no row is left
-abbrev pub choice : List RowTexts → List ℕ → List ℕ
-choice [] default = default
-choice (row ∷ rows) default = listed (codes "ite" ∷ (row_test row ∷ (row.result ∷ (choice rows default ∷ []))))
+-- rows that stand together: their tests, and their result
+pub record GroupTexts : Type 0 where
+  pub tests : List (List ℕ)
+  pub result : List ℕ
 
--- the texts are those of the row's values
+-- a row alone
+abbrev pub alone : List ℕ → List ℕ → GroupTexts
+alone test result = record { tests = test ∷ []; result = result }
+
+-- a row with this test and this result before groups: in the first of them where it stands together with the row after it
+abbrev pub with_row : Bool → List ℕ → List ℕ → List GroupTexts → List GroupTexts
+with_row joins test result [] = alone test result ∷ []
+with_row true test result (group ∷ groups) = record { tests = test ∷ group.tests; result = group.result } ∷ groups
+with_row false test result (group ∷ groups) = alone test result ∷ (group ∷ groups)
+
+abbrev pub grouped : List RowTexts → List GroupTexts
+grouped [] = []
+grouped (row ∷ rows) = with_row row.joins (row_test row) row.result (grouped rows)
+
+-- that one of these holds: one alone, and more as `(or ..)`
+abbrev pub disjunction : List (List ℕ) → List ℕ
+disjunction [] = listed (codes "or" ∷ [])
+disjunction (t ∷ []) = t
+disjunction (t ∷ (u ∷ ts)) = listed (codes "or" ∷ (t ∷ (u ∷ ts)))
+
+-- `(ite test result rest)` for each group in order, and the default where no group is left
+abbrev pub choice_of : List GroupTexts → List ℕ → List ℕ
+choice_of [] default = default
+choice_of (group ∷ groups) default = listed (codes "ite" ∷ (disjunction group.tests ∷ (group.result ∷ (choice_of groups default ∷ []))))
+
+abbrev pub choice : List RowTexts → List ℕ → List ℕ
+choice rows default = choice_of (grouped rows) default
+
+-- the texts are those of the row's values; that of the result is written with the last row of a group alone
 pub record AreRowTexts (d : Declarations) (g : Nodes) (row : Row) (texts : RowTexts) : Type 0 where
   pub args_are : AllZip (IsValueText d g) row.args texts.args
-  pub result_is : IsValueText d g row.result texts.result
+  pub result_is : texts.joins ≡ false → IsValueText d g row.result texts.result
+
+-- both are rows, of one result
+abbrev pub have_one_result : Option Row → Option Row → Bool
+have_one_result (Some a) (Some b) = a.result.0 == b.result.0
+have_one_result a b = false
+
+-- a row stands together with the one after it where both have one result
+abbrev pub AreJoined : List Row → List RowTexts → Type 0
+AreJoined rows texts = (i : ℕ) (text : RowTexts) → slice_get texts i ≡ Some text → text.joins ≡ have_one_result (slice_get rows i) (slice_get rows (suc i))
 
 -- the text chooses by the table's rows
 pub record IsChoiceText (d : Declarations) (g : Nodes) (table : Table) (text : List ℕ) : Type 0 where
   pub row_texts : List RowTexts
   pub rows_are : AllZip (AreRowTexts d g) table.rows row_texts
+  pub joined : AreJoined table.rows row_texts
   pub default_text : List ℕ
   pub default_is : IsValueText d g table.default default_text
   pub text_is : text ≡ choice row_texts default_text

@@ -1,12 +1,12 @@
 //! The body of a function as a choice by the rows of its table.
-ghost use Rattle.std.specs.Prelude.{◌≡◌, ℕ, ◌<◌, List, ◌∷◌, ◌++◌, length, All, OnOk};
+ghost use Rattle.std.specs.Prelude.{◌≡◌, ℕ, suc, ◌+◌, ◌<◌, ◌^◌, true, false, List, ◌∷◌, ◌++◌, length, slice_get, All, IfOk, OnOk};
 ghost use Rattle.std.specs.List.{AllZip};
 ghost use Rattle.ct_values.specs.Fitting.{FitsGraph};
 ghost use Rattle.ct_value_text.specs.ValueText.{IsValueText};
 ghost use Rattle.ct_model.specs.Within.{IsNode, IsRowWithin, IsTableWithin};
 ghost use Rattle.ct_model.specs.Listed.{spaced};
 ghost use Rattle.ct_model.specs.Opening as spec;
-ghost use Rattle.ct_model.specs.TableText.{equation, equations, conjunction, constant, RowTexts, AreRowTexts, IsChoiceText, IsBodyText};
+ghost use Rattle.ct_model.specs.TableText.{equation, equations, conjunction, constant, RowTexts, row_test, AreRowTexts, AreJoined, have_one_result, IsChoiceText, IsBodyText};
 
 use crate::error::ModelError;
 use crate::words::{write_parameter, write_value};
@@ -77,43 +77,108 @@ fn write_test(
     Ok(out.push(b')')?)
 }
 
-// Writes what stands of a row before the rest, as `(ite test result ` with the space at the end.
+// Writes what stands before the test of a row, the first of its group or not, and of the group of the next row or not.
+fn write_before(first: bool, joins: bool, out: &mut Vec<u8>) -> Result<(), ModelError>
+    ensures ok { OnOk result (out.new.items ≡ out.old.items ++ spec.before_test first joins) }
+{
+    match (first, joins) {
+        (true, true) => Ok(out.extend_from_slice(b"(ite (or ")?),
+        (true, false) => Ok(out.extend_from_slice(b"(ite ")?),
+        (false, _) => Ok(out.push(b' ')?),
+    }
+}
+
+// Writes what stands after the test of a row: where its group ends, the result.
+fn write_after(
+    alloc: Global,
+    sig: &Signature,
+    graph: &Graph,
+    first: bool,
+    joins: bool,
+    n: NodeId,
+    out: &mut Vec<u8>,
+) -> Result<(), ModelError>
+    requires within { IsNode graph.now n }
+    requires fits { FitsGraph sig.now graph.now }
+    ensures ok { OnOk result ((text : List ℕ) × (joins ≡ false → IsValueText sig.now graph.now n text)
+        × (out.new.items ≡ out.old.items ++ spec.after_test first joins text)) }
+{
+    if joins {
+        return Ok(());
+    }
+    if !first {
+        out.push(b')')?;
+    }
+    out.push(b' ')?;
+    write_value(alloc, sig, graph, n, out)?;
+    Ok(out.push(b' ')?)
+}
+
+// Writes what stands of a row before the rest.
 fn write_opening(
     alloc: Global,
     sig: &Signature,
     graph: &Graph,
     row: &Row,
+    first: bool,
+    joins: bool,
     out: &mut Vec<u8>,
 ) -> Result<(), ModelError>
     requires within { IsRowWithin graph.now row.now }
     requires fits { FitsGraph sig.now graph.now }
-    ensures ok { OnOk result ((texts : RowTexts) × AreRowTexts sig.now graph.now row.now texts
-        × (out.new.items ≡ out.old.items ++ spec.opening texts)) }
+    ensures ok { OnOk result ((texts : RowTexts) × AreRowTexts sig.now graph.now row.now texts × (texts.joins ≡ joins)
+        × (out.new.items ≡ out.old.items ++ spec.opening first joins (row_test texts) texts.result)) }
 {
-    out.extend_from_slice(b"(ite ")?;
+    write_before(first, joins, out)?;
     write_test(alloc, sig, graph, row.args.as_slice(), out)?;
-    out.push(b' ')?;
-    write_value(alloc, sig, graph, row.result, out)?;
-    Ok(out.push(b' ')?)
+    write_after(alloc, sig, graph, first, joins, row.result, out)
 }
 
-// Writes the openings of all rows.
+// Whether the row with this number has the result of the next.
+fn joins_next(rows: &[Row], r: usize) -> bool
+    requires within { r < length rows.now }
+    ensures room { r + 1 < 2 ^ 64 }
+    ensures value { result ≡ have_one_result (slice_get rows.now r) (slice_get rows.now (suc r)) }
+{
+    if r + 1 == rows.len() {
+        return false;
+    }
+    rows[r].result.0 == rows[r + 1].result.0
+}
+
+// Writes the openings of all rows: how many groups they are in.
 fn write_openings(
     alloc: Global,
     sig: &Signature,
     graph: &Graph,
     rows: &[Row],
     out: &mut Vec<u8>,
-) -> Result<(), ModelError>
+) -> Result<usize, ModelError>
     requires within { All (IsRowWithin graph.now) rows.now }
     requires fits { FitsGraph sig.now graph.now }
-    ensures ok { OnOk result ((texts : List RowTexts) × AllZip (AreRowTexts sig.now graph.now) rows.now texts
-        × (out.new.items ≡ out.old.items ++ spec.openings texts)) }
+    ensures ok { IfOk result (λ count. (texts : List RowTexts) × AllZip (AreRowTexts sig.now graph.now) rows.now texts × AreJoined rows.now texts
+        × (count ≡ spec.ends texts) × (out.new.items ≡ out.old.items ++ spec.openings true texts)) }
 {
+    let mut first = true;
+    let mut count = 0;
     for r in 0..rows.len() {
-        write_opening(alloc, sig, graph, &rows[r], out)?;
+        let joins = joins_next(rows, r);
+        write_opening(alloc, sig, graph, &rows[r], first, joins, out)?;
+        first = !joins;
+        count = with_end(joins, count);
     }
-    Ok(())
+    Ok(count)
+}
+
+// How many groups have ended, of so many before, with a row that stands together with the next or not.
+fn with_end(joins: bool, count: usize) -> usize
+    requires room { count + 1 < 2 ^ 64 }
+    ensures value { result ≡ count + spec.ended joins 0 }
+{
+    if joins {
+        return count;
+    }
+    count + 1
 }
 
 // Writes so many closing parentheses.
@@ -140,9 +205,9 @@ fn write_choice(
         × (out.new.items ≡ out.old.items ++ text)) }
 {
     let rows = table.rows.as_slice();
-    write_openings(alloc, sig, graph, rows, out)?;
+    let count = write_openings(alloc, sig, graph, rows, out)?;
     write_value(alloc, sig, graph, table.default, out)?;
-    write_closings(rows.len(), out)
+    write_closings(count, out)
 }
 
 // What a table without arguments gives.

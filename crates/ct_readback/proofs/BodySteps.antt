@@ -19,6 +19,7 @@ use Rattle.ct_readback.specs.Rows.{body_row}
 use Rattle.ct_readback.specs.ValueAt.{IsValueAt}
 use Rattle.ct_readback.specs.ItemAt.{RowValues, values_in_row, values_in, HasCycle, HasValue, IsRowAt, IsBodyAt, SaysTable, IsRowFor}
 use Rattle.ct_readback.specs.Said.{IsSaid, IsPart, IsRowOf, IsTableOf}
+use Rattle.ct_readback.specs.BodySoFar.{IsBodySoFar}
 use Rattle.ct_readback.proofs.PartLemmas.{cycle_left, cycle_right, cycle_one, acyclic_both, acyclic_one, rows_longer}
 
 -- the values of one more row
@@ -27,16 +28,7 @@ rows_more [] row = append-nil (values_in_row row)
 rows_more (r ∷ rs) row = ap (λ (ps : List Point). values_in_row r ++ ps) (rows_more rs row) ∙ sym (append_assoc (values_in_row r) (flat_map values_in_row rs) (values_in_row row))
 
 module _ (d : Declarations) (args : List SortId) (s : SortId) (body : Expression) where
-  -- the rows before this rest say these values, and where none of them is cyclic, the rows have them
-  pub record IsBodySoFar (g : Nodes) (left : Expression) (cyclic : Bool) (rows : List Row) : Type 0 where
-    pub values : List RowValues
-    pub forward : (later : List RowValues) (default : Point) → IsBodyAt d args s left later default → IsBodyAt d args s body (values ++ later) default
-    pub backward : (all : List RowValues) (default : Point) → IsBodyAt d args s body all default → (later : List RowValues) × IsBodyAt d args s left later default
-    pub cycle : cyclic ≡ true → HasCycle d (flat_map values_in_row values)
-    pub acyclic : cyclic ≡ false → HasCycle d (flat_map values_in_row values) → ⊥
-    pub rows_are : cyclic ≡ false → AllZip (IsRowOf d g args s) values rows
-
-  pub body_start : (g : Nodes) → IsBodySoFar g body false []
+  pub body_start : (g : Nodes) → IsBodySoFar d args s body g body false []
   body_start g = record {
     values = [];
     forward = λ later default h. h;
@@ -46,7 +38,7 @@ module _ (d : Declarations) (args : List SortId) (s : SortId) (body : Expression
     rows_are = λ e. tt;
   }
 
-  pub body_longer : (g more : Nodes) (left : Expression) (b : Bool) (rows : List Row) → IsClosed g → IsBodySoFar g left b rows → IsBodySoFar (g ++ more) left b rows
+  pub body_longer : (g more : Nodes) (left : Expression) (b : Bool) (rows : List Row) → IsClosed g → IsBodySoFar d args s body g left b rows → IsBodySoFar d args s body (g ++ more) left b rows
   body_longer g more left b rows closed h = record {
     values = h.values;
     forward = h.forward;
@@ -69,28 +61,28 @@ module _ (d : Declarations) (args : List SortId) (s : SortId) (body : Expression
       )
 
   -- the next row stops, is cyclic, or is one
-  pub body_stop : (g h k : Nodes) (left test result rest : Expression) (b : Bool) (rows : List Row) → IsBodySoFar g left b rows → body_row (length args) left ≡ Some (test, result, rest)
+  pub body_stop : (g h k : Nodes) (left test result rest : Expression) (b : Bool) (rows : List Row) → IsBodySoFar d args s body g left b rows → body_row (length args) left ≡ Some (test, result, rest)
       → IsPart d (IsRowAt d args s test result) values_in_row (IsRowOf d h args s) parts.Misfit → IsPart d (SaysTable d args s body) values_in (IsTableOf d k args s) parts.Misfit
   body_stop g h k left test result rest b rows so_far written none_said = λ values says.
       let later = so_far.backward values.rows values.default says in
       let first = first_row left test result rest written later.0 values.default later.1 in
       none_said first.0 first.2
 
-  more_rows : (g : Nodes) (left test result rest : Expression) (b : Bool) (rows : List Row) → (so_far : IsBodySoFar g left b rows) → body_row (length args) left ≡ Some (test, result, rest)
+  more_rows : (g : Nodes) (left test result rest : Expression) (b : Bool) (rows : List Row) → (so_far : IsBodySoFar d args s body g left b rows) → body_row (length args) left ≡ Some (test, result, rest)
       → (row : RowValues) → IsRowAt d args s test result row → (later : List RowValues) (default : Point) → IsBodyAt d args s rest later default → IsBodyAt d args s body ((so_far.values ++ row ∷ []) ++ later) default
   more_rows g left test result rest b rows so_far written row says later default h =
       subst (λ (all : List RowValues). IsBodyAt d args s body all default) (sym (append_assoc so_far.values (row ∷ []) later))
       (so_far.forward (row ∷ later) default (rest, record { test = test; result = result; written = written; said = says }, h))
 
-  fewer_left : (g : Nodes) (left test result rest : Expression) (b : Bool) (rows : List Row) → (so_far : IsBodySoFar g left b rows) → body_row (length args) left ≡ Some (test, result, rest)
+  fewer_left : (g : Nodes) (left test result rest : Expression) (b : Bool) (rows : List Row) → (so_far : IsBodySoFar d args s body g left b rows) → body_row (length args) left ≡ Some (test, result, rest)
       → (all : List RowValues) (default : Point) → IsBodyAt d args s body all default → (later : List RowValues) × IsBodyAt d args s rest later default
   fewer_left g left test result rest b rows so_far written all default h =
       let later = so_far.backward all default h in
       let first = first_row left test result rest written later.0 default later.1 in
       (first.1, first.3)
 
-  pub body_cycle : (g h k : Nodes) (left test result rest : Expression) (b : Bool) (rows : List Row) → IsBodySoFar g left b rows → body_row (length args) left ≡ Some (test, result, rest)
-      → IsPart d (IsRowAt d args s test result) values_in_row (IsRowOf d h args s) parts.Cycle → IsBodySoFar k rest true rows
+  pub body_cycle : (g h k : Nodes) (left test result rest : Expression) (b : Bool) (rows : List Row) → IsBodySoFar d args s body g left b rows → body_row (length args) left ≡ Some (test, result, rest)
+      → IsPart d (IsRowAt d args s test result) values_in_row (IsRowOf d h args s) parts.Cycle → IsBodySoFar d args s body k rest true rows
   body_cycle g h k left test result rest b rows so_far written (row, says, cycle) = record {
     values = so_far.values ++ row ∷ [];
     forward = more_rows g left test result rest b rows so_far written row says;
@@ -100,8 +92,8 @@ module _ (d : Declarations) (args : List SortId) (s : SortId) (body : Expression
     rows_are = λ e. absurd (true≢false e);
   }
 
-  pub body_more : (g : Nodes) (left test result rest : Expression) (b : Bool) (rows : List Row) (row : Row) → IsBodySoFar g left b rows → body_row (length args) left ≡ Some (test, result, rest)
-      → IsPart d (IsRowAt d args s test result) values_in_row (IsRowOf d g args s) (parts.Fine row) → IsBodySoFar g rest b (rows ++ row ∷ [])
+  pub body_more : (g : Nodes) (left test result rest : Expression) (b : Bool) (rows : List Row) (row : Row) → IsBodySoFar d args s body g left b rows → body_row (length args) left ≡ Some (test, result, rest)
+      → IsPart d (IsRowAt d args s test result) values_in_row (IsRowOf d g args s) (parts.Fine row) → IsBodySoFar d args s body g rest b (rows ++ row ∷ [])
   body_more g left test result rest b rows row so_far written (values, says, never, is_row) = record {
     values = so_far.values ++ values ∷ [];
     forward = more_rows g left test result rest b rows so_far written values says;
@@ -112,10 +104,10 @@ module _ (d : Declarations) (args : List SortId) (s : SortId) (body : Expression
   }
 
   -- no row is left
-  whole : (g : Nodes) (left : Expression) (b : Bool) (rows : List Row) → (so_far : IsBodySoFar g left b rows) → body_row (length args) left ≡ None → (p : Point) → IsValueAt d s left p → IsBodyAt d args s body so_far.values p
+  whole : (g : Nodes) (left : Expression) (b : Bool) (rows : List Row) → (so_far : IsBodySoFar d args s body g left b rows) → body_row (length args) left ≡ None → (p : Point) → IsValueAt d s left p → IsBodyAt d args s body so_far.values p
   whole g left b rows so_far never p says = subst (λ (all : List RowValues). IsBodyAt d args s body all p) (append-nil so_far.values) (so_far.forward [] p (never, says))
 
-  pub body_no_default : (g h k : Nodes) (left : Expression) (b : Bool) (rows : List Row) → IsBodySoFar g left b rows → body_row (length args) left ≡ None
+  pub body_no_default : (g h k : Nodes) (left : Expression) (b : Bool) (rows : List Row) → IsBodySoFar d args s body g left b rows → body_row (length args) left ≡ None
       → IsSaid d h (IsValueAt d s left) s said.Nothing → IsPart d (SaysTable d args s body) values_in (IsTableOf d k args s) parts.Misfit
   body_no_default g h k left b rows so_far never none_said = λ values says. stop values.default (so_far.backward values.rows values.default says)
     where
@@ -123,17 +115,17 @@ module _ (d : Declarations) (args : List SortId) (s : SortId) (body : Expression
       stop default ([], is) = none_said default is.1
       stop default (row ∷ rows, (rest, has, says)) = none-some (has.test, has.result, rest) (sym never ∙ has.written)
 
-  pub body_cyclic_default : (g h k : Nodes) (left : Expression) (b : Bool) (rows : List Row) → IsBodySoFar g left b rows → body_row (length args) left ≡ None
+  pub body_cyclic_default : (g h k : Nodes) (left : Expression) (b : Bool) (rows : List Row) → IsBodySoFar d args s body g left b rows → body_row (length args) left ≡ None
       → IsSaid d h (IsValueAt d s left) s said.Cycle → IsPart d (SaysTable d args s body) values_in (IsTableOf d k args s) parts.Cycle
   body_cyclic_default g h k left b rows so_far never (p, says, cycle) =
       (record { rows = so_far.values; default = p }, whole g left b rows so_far never p says, cycle_right d (flat_map values_in_row so_far.values) (p ∷ []) (cycle_one d p cycle))
 
-  pub body_cyclic : (g h k : Nodes) (left : Expression) (rows : List Row) (n : NodeId) → IsBodySoFar g left true rows → body_row (length args) left ≡ None
+  pub body_cyclic : (g h k : Nodes) (left : Expression) (rows : List Row) (n : NodeId) → IsBodySoFar d args s body g left true rows → body_row (length args) left ≡ None
       → IsSaid d h (IsValueAt d s left) s (said.Value n) → IsPart d (SaysTable d args s body) values_in (IsTableOf d k args s) parts.Cycle
   body_cyclic g h k left rows n so_far never (p, says, own, node) =
       (record { rows = so_far.values; default = p }, whole g left true rows so_far never p says, cycle_left d (flat_map values_in_row so_far.values) (p ∷ []) (so_far.cycle refl))
 
-  pub body_fine : (g : Nodes) (left : Expression) (rows : List Row) (n : NodeId) (table : Table) → table.rows ≡ rows → table.default ≡ n → IsBodySoFar g left false rows → body_row (length args) left ≡ None
+  pub body_fine : (g : Nodes) (left : Expression) (rows : List Row) (n : NodeId) (table : Table) → table.rows ≡ rows → table.default ≡ n → IsBodySoFar d args s body g left false rows → body_row (length args) left ≡ None
       → IsSaid d g (IsValueAt d s left) s (said.Value n) → IsPart d (SaysTable d args s body) values_in (IsTableOf d g args s) (parts.Fine table)
   body_fine g left rows n table rows_same default_same so_far never (p, says, own, node) =
       let all : AllZip (IsRowOf d g args s) so_far.values table.rows = subst (λ (rs : List Row). AllZip (IsRowOf d g args s) so_far.values rs) (sym rows_same) (so_far.rows_are refl) in (

@@ -23,7 +23,8 @@ use Rattle.ct_readback.specs.declared.item.Part.TheVariants as parts
 use Rattle.ct_readback.specs.Progress.{IsReadAt, IsOtherTable, AreFunctions, AreSelectors, AreDefaults, first_offs}
 use Rattle.ct_readback.proofs.TreeSteps.{AreTreesSoFar, trees_so_far_longer}
 use Rattle.ct_readback.proofs.PartLemmas.{AreEquationsSoFar, equations_longer, nodes_longer}
-use Rattle.ct_readback.proofs.BodySteps.{IsBodySoFar, body_longer}
+use Rattle.ct_readback.specs.BodySoFar.{IsBodySoFar}
+use Rattle.ct_readback.proofs.BodySteps.{body_longer}
 use Rattle.ct_readback.proofs.DefaultLemmas.{defaults_longer}
 use Rattle.ct_readback.proofs.ModelLemmas.{functions_longer, functions_more}
 use Rattle.ct_readback.proofs.SelectorLemmas.{offs_more, offs_same, selectors_longer, selectors_off, selectors_other}

@@ -19,3 +19,4 @@ pub mod ItemRead
 pub mod Progress
 pub mod EdgeRows
 pub mod Printed
+pub mod BodySoFar

@@ -1,18 +1,20 @@
 //! An item of a model: the table that it defines, or its error.
-ghost use Rattle.std.specs.Prelude.{◌≡◌, [], ◌∷◌, All, length, IfOk};
-ghost use Rattle.ct_sexpr.specs.Expression.{none, more};
+ghost use Rattle.std.specs.Prelude.{◌≡◌, [], ◌∷◌, All, length, Some, IfOk, IfSome, IfNone};
+ghost use Rattle.ct_sexpr.specs.Expression.{Expression, Expressions, none, more};
 ghost use Rattle.ct_sexpr.specs.View.{expression_of, expressions_of};
 ghost use Rattle.ct_sorts.specs.Declarations.{IsSort};
 ghost use Rattle.ct_sorts.specs.Grown.{Begins};
 ghost use Rattle.ct_values.specs.WellFormed.{IsWellFormedGraph};
 ghost use Rattle.ct_readback.specs.ItemAt.{values_in, values_in_row, IsEquationAt, AreEquationsAt, IsTestAt, IsRowAt, SaysTable};
+ghost use Rattle.ct_readback.specs.BodySoFar.{IsBodySoFar, IsReadOn, StandsBefore};
 ghost use Rattle.ct_readback.specs.ItemRead.{IsItemRead};
+ghost use Rattle.ct_readback.specs.Rows.{body_row, body_choice, first_row, after_tests};
 ghost use Rattle.ct_readback.specs.Said.{IsSaid, IsPart, AreNodesFor, IsRowOf, IsTableOf, all_points};
 
 use crate::error::BackError;
 use crate::item_text::{has_parts, is_heading, item_in};
 use crate::pool::Pool;
-use crate::rows::{body_row, conjuncts, equation_value};
+use crate::rows::{body_choice, conjuncts, equation_value, tests_in};
 use crate::value::{Said, push_value};
 use ct_eval::{Row, Rows, Table};
 use ct_sexpr::Sexpr;
@@ -38,6 +40,13 @@ pub(crate) enum Part<T> {
     Cycle,
     /// This.
     Fine(T),
+}
+
+// The rows of a body so far, and whether some value was a cycle.
+#[derive(Debug, Drop)]
+struct Found {
+    rows: Vec<Row>,
+    cyclic: bool,
 }
 
 /// The table that the item says where this is due, whether it is that of a selector, or the number of its error. In each case the
@@ -91,32 +100,134 @@ fn read_body(
     ensures well_formed { IsWellFormedGraph sig.now graph.new }
     ensures table { IfOk result (IsPart sig.now (SaysTable sig.now args.now s (expression_of body.now)) values_in (IsTableOf sig.now graph.new args.now s)) }
 {
-    let mut rows = Vec::new(alloc);
-    let mut cyclic = false;
+    let mut found = Found {
+        rows: Vec::new(alloc),
+        cyclic: false,
+    };
     let mut left = body;
-    while let Some((test, value, rest)) = body_row(args.len(), left) {
+    while let Some((test, value, rest)) = body_choice(args.len(), left) {
         left = rest;
-        let row = match read_row(alloc, sig, args, s, test, value, graph)? {
-            Part::Misfit => return Ok(Part::Misfit),
-            Part::Cycle => {
-                cyclic = true;
-                continue;
-            }
-            Part::Fine(row) => row,
-        };
-        rows.push(row)?;
+        if !read_rows(alloc, sig, args, s, test, value, graph, &mut found)? {
+            return Ok(Part::Misfit);
+        }
     }
     match push_value(alloc, sig, s, left, graph)? {
         Said::Nothing => Ok(Part::Misfit),
         Said::Cycle => Ok(Part::Cycle),
         Said::Value(default) => {
-            if cyclic {
+            if found.cyclic {
                 return Ok(Part::Cycle);
             }
             Ok(Part::Fine(Table {
-                rows: Rows::new(rows),
+                rows: Rows::new(found.rows),
                 default,
             }))
+        }
+    }
+}
+
+// Adds the rows that the tests of a choice and its result say. Whether they fit the script.
+fn read_rows(
+    alloc: Global,
+    sig: &Signature,
+    sorts: &[SortId],
+    s: SortId,
+    test: &Sexpr,
+    value: &Sexpr,
+    graph: &mut Pool,
+    found: &mut Found,
+) -> Result<bool, BackError>
+    requires args { All (IsSort sig.now) sorts.now }
+    requires inside { IsSort sig.now s }
+    requires well_formed { IsWellFormedGraph sig.now graph.old }
+    ensures grown { Begins graph.old graph.new }
+    ensures well_formed { IsWellFormedGraph sig.now graph.new }
+    ensures read { IfOk result (λ fits. (body left rest : Expression)
+        → IsBodySoFar sig.now sorts.now s body graph.old left found.old.cyclic found.old.rows.items
+        → body_choice (length sorts.now) left ≡ Some (expression_of test.now, expression_of value.now, rest)
+        → IsReadOn sig.now sorts.now s body graph.new rest found.new.cyclic found.new.rows.items fits) }
+{
+    if let Some(tests) = several_in(test) {
+        let fits = add_rows(alloc, sig, sorts, s, tests, value, graph, found)?;
+        return Ok(fits);
+    }
+    let fits = add_row(alloc, sig, sorts, s, test, value, graph, found)?;
+    Ok(fits)
+}
+
+// The tests in an `or`, where there is one.
+fn several_in(test: &Sexpr) -> Option<&[Sexpr]>
+    ensures some { IfSome result (λ tests. (choice : Expression × Expression × Expression)
+        → choice.0 ≡ expression_of test.now
+        → (first : Expression) × (others : Expressions) × (expressions_of tests.now ≡ more first others) × (first_row choice ≡ (first, choice.1, after_tests others choice.1 choice.2))) }
+    ensures none { IfNone result ((choice : Expression × Expression × Expression) → choice.0 ≡ expression_of test.now → first_row choice ≡ choice) }
+{
+    match tests_in(test) {
+        None => None,
+        Some([]) => None,
+        Some(tests) => Some(tests),
+    }
+}
+
+// Adds the rows that these tests and one result say. Whether they fit the script.
+fn add_rows(
+    alloc: Global,
+    sig: &Signature,
+    sorts: &[SortId],
+    s: SortId,
+    tests: &[Sexpr],
+    value: &Sexpr,
+    graph: &mut Pool,
+    found: &mut Found,
+) -> Result<bool, BackError>
+    requires args { All (IsSort sig.now) sorts.now }
+    requires inside { IsSort sig.now s }
+    requires well_formed { IsWellFormedGraph sig.now graph.old }
+    ensures grown { Begins graph.old graph.new }
+    ensures well_formed { IsWellFormedGraph sig.now graph.new }
+    ensures read { IfOk result (λ fits. (body left rest : Expression)
+        → IsBodySoFar sig.now sorts.now s body graph.old left found.old.cyclic found.old.rows.items
+        → StandsBefore (length sorts.now) (expressions_of tests.now) (expression_of value.now) rest left
+        → IsReadOn sig.now sorts.now s body graph.new rest found.new.cyclic found.new.rows.items fits) }
+{
+    for index in 0..tests.len() {
+        if !add_row(alloc, sig, sorts, s, &tests[index], value, graph, found)? {
+            return Ok(false);
+        }
+    }
+    Ok(true)
+}
+
+// Adds the row that a test and a result say. Whether it fits the script.
+fn add_row(
+    alloc: Global,
+    sig: &Signature,
+    sorts: &[SortId],
+    s: SortId,
+    test: &Sexpr,
+    value: &Sexpr,
+    graph: &mut Pool,
+    found: &mut Found,
+) -> Result<bool, BackError>
+    requires args { All (IsSort sig.now) sorts.now }
+    requires inside { IsSort sig.now s }
+    requires well_formed { IsWellFormedGraph sig.now graph.old }
+    ensures grown { Begins graph.old graph.new }
+    ensures well_formed { IsWellFormedGraph sig.now graph.new }
+    ensures read { IfOk result (λ fits. (body left rest : Expression)
+        → IsBodySoFar sig.now sorts.now s body graph.old left found.old.cyclic found.old.rows.items
+        → body_row (length sorts.now) left ≡ Some (expression_of test.now, expression_of value.now, rest)
+        → IsReadOn sig.now sorts.now s body graph.new rest found.new.cyclic found.new.rows.items fits) }
+{
+    match read_row(alloc, sig, sorts, s, test, value, graph)? {
+        Part::Misfit => Ok(false),
+        Part::Cycle => {
+            found.cyclic = true;
+            Ok(true)
+        }
+        Part::Fine(row) => {
+            found.rows.push(row)?;
+            Ok(true)
         }
     }
 }

@@ -8,23 +8,30 @@ use crate::value::is_value;
 use crate::words::{is_numbered, is_word};
 use ct_sexpr::{Sexpr, nested_lists};
 
-// The test and the result of a row, and what stands where its test fails.
-fn row_in(body: &Sexpr) -> Option<(&Sexpr, &Sexpr, &Sexpr)>
-    ensures value { spec.row_in (expression_of body.now) ≡ option_map (λ es. (expression_of es.0.now, expression_of es.1.now, expression_of es.2.now)) result }
+// The test and the result of a choice, and what stands where the test fails.
+fn choice_in(body: &Sexpr) -> Option<(&Sexpr, &Sexpr, &Sexpr)>
+    ensures value { spec.choice_in (expression_of body.now) ≡ option_map (λ es. (expression_of es.0.now, expression_of es.1.now, expression_of es.2.now)) result }
 {
     let parts = parts_after(b"ite", body)?;
     three_of(parts)
 }
 
 /// The same of a body of an item with so many parameters.
-pub(crate) fn body_row(parameters: usize, body: &Sexpr) -> Option<(&Sexpr, &Sexpr, &Sexpr)>
-    ensures value { spec.body_row parameters (expression_of body.now) ≡ option_map (λ es. (expression_of es.0.now, expression_of es.1.now, expression_of es.2.now)) result }
+pub(crate) fn body_choice(parameters: usize, body: &Sexpr) -> Option<(&Sexpr, &Sexpr, &Sexpr)>
+    ensures value { spec.body_choice parameters (expression_of body.now) ≡ option_map (λ es. (expression_of es.0.now, expression_of es.1.now, expression_of es.2.now)) result }
 {
-    let row = row_in(body)?;
+    let choice = choice_in(body)?;
     if parameters == 0 {
         return None;
     }
-    Some(row)
+    Some(choice)
+}
+
+/// The tests of rows that stand together: what stands in an `or`.
+pub(crate) fn tests_in(test: &Sexpr) -> Option<&[Sexpr]>
+    ensures value { spec.tests_in (expression_of test.now) ≡ option_map (λ es. expressions_of es.now) result }
+{
+    parts_after(b"or", test)
 }
 
 // The value text of an equation of the parameter number i.
@@ -90,14 +97,38 @@ fn is_test(parameters: usize, test: &Sexpr) -> bool
     }
 }
 
-// Whether the expression has the form of rows, one inside the other, and a default.
+// Whether all of them have the form of a test of so many parameters.
+#[tactic(auto, using(crate::proofs::RestLemmas::rest_at))]
+fn are_all_tests(parameters: usize, tests: &[Sexpr]) -> bool
+    ensures value { result ≡ spec.are_all_tests parameters (expressions_of tests.now) }
+{
+    for index in 0..tests.len() {
+        if !is_test(parameters, &tests[index]) {
+            return false;
+        }
+    }
+    true
+}
+
+// Whether the expression is a test of so many parameters, or several in an `or`.
+fn are_tests(parameters: usize, test: &Sexpr) -> bool
+    ensures value { result ≡ spec.are_tests parameters (expression_of test.now) }
+{
+    match tests_in(test) {
+        None => is_test(parameters, test),
+        Some([]) => false,
+        Some(tests) => are_all_tests(parameters, tests),
+    }
+}
+
+// Whether the expression has the form of choices, one inside the other, and a default.
 #[tactic(auto, using(crate::proofs::BodyLemmas::choice_by_row, crate::proofs::BodyLemmas::rest_nests_less))]
 fn is_choice(parameters: usize, body: &Sexpr) -> bool
     ensures value { result ≡ spec.is_choice parameters (expression_of body.now) }
 {
     let mut left = body;
-    while let Some((test, value, rest)) = row_in(left) {
-        if !is_test(parameters, test) || !is_value(value) {
+    while let Some((test, value, rest)) = choice_in(left) {
+        if !are_tests(parameters, test) || !is_value(value) {
             return false;
         }
         left = rest;

@@ -1,8 +1,5 @@
-use Rattle.std.proofs.Common.{take}
-use Rattle.ct_model.specs.TableText.{AreRowTexts}
-use Rattle.ct_model.specs.Opening.{openings}
-use Rattle.ct_model.proofs.ListLemmas.{AreWritten}
+use Rattle.ct_model.proofs.BodyLemmas.{AreOpened}
 use Rattle.ct_model.proofs.body.write_openings.Given as goal
 
 abbrev pub invariant-loop-r : goal.invariant-loop-r
-invariant-loop-r l = AreWritten (AreRowTexts l.sig l.graph) openings (take l.r l.rows) l.fn.out.items l.out.items
+invariant-loop-r l = AreOpened l.sig l.graph l.rows l.r l.first l.count l.fn.out.items l.out.items
