@@ -46,13 +46,6 @@ begun_with_more d store old new same_declarations same_terms same_asserts begun 
   lines = lines;
 }
 
--- so many lines stand before the others
-pub begun_at_with_more : (d : Declarations) (store : Stored) (old new : Derived) (n : ℕ) → new.declarations ≡ old.declarations → new.rec.terms ≡ old.rec.terms → new.asserts ≡ old.asserts
-    → (at : IsBegunAt d store old n) → (rest : List Line) → new.rec.lines ≡ at.0.initial ++ (at.0.moved ++ rest) → IsBegunAt d store new n
-unfolding begun_with_more
-begun_at_with_more d store old new n same_declarations same_terms same_asserts at rest lines =
-    (begun_with_more d store old new same_declarations same_terms same_asserts at.0 rest lines, at.1)
-
 -- a search goes on from where it began
 pub course_goes_on : (d : Declarations) (store : Stored) (old new : Course) → IsOfOneClosure old new → IsCourseWith d store old → IsCourseWith d store new
 unfolding begun_with_more
@@ -186,14 +179,7 @@ adds_next given moves after n k m was is same =
 
 -- ---- what is found
 
--- the derivation of a search that began with a store
-pub begun_at : (d : Declarations) (store : Stored) (course : Course) (derived : Derived) (n : ℕ) → derived ≡ course.derivation → n ≡ course.initial + course.kept → IsCourseWith d store course → IsBegunAt d store derived n
-begun_at d store course derived n same count with_store =
-    let initial = with_store.initial in
-    let kept = with_store.kept in
-    subst (λ (x : Derived). IsBegunAt d store x n) (sym same) (with_store.begun, omega (arith, count, initial, kept))
-
--- and the record of one
+-- the record of a search that began with a store
 pub spent_with : (d : Declarations) (store : Stored) (course : Course) (derived : Derived) (moves : List Move) → derived ≡ course.derivation → moves ≡ course.moves.items → IsCourseWith d store course → AddsFirst course
     → (begun : IsBegunWith d store derived) × (length begun.initial + length begun.moved ≡ course.initial + course.kept) × AddsKept d store derived begun moves
 spent_with d store course derived moves same same_moves with_store adds =

@@ -1,5 +1,4 @@
 pub mod KeepingLemmas
-pub mod TrimLemmas
 pub mod ShorteningLemmas
 pub mod ListLemmas
 pub mod ValuedLemmas

@@ -1,6 +1,7 @@
 -- What a search begins with.
 use Rattle.std.proofs.Common.{◌≡◌, ◌↔◌, ℕ, Bool, false, ◌<◌, ◌≤◌, List, [], ◌∷◌, ◌++◌, length, Some, slice_get, All, Contains, refl, sym, ap, subst, ◌∙◌, arith}
 use Rattle.std.proofs.lemmas.Option.{slice_get_within}
+use Rattle.std.proofs.lemmas.List.{append-nil}
 use Rattle.std.proofs.lemmas.List.Elements.{All-weaker, All-head, All-tail}
 use Rattle.ct_lemmas.proofs.Contained.{slice_get-from_Contains}
 use Rattle.ct_lemmas.proofs.Each.{All-from_Contains}
@@ -23,7 +24,10 @@ use Rattle.ct_log.specs.Recorded.{Derived}
 use Rattle.ct_sat.specs.State.{SearchState, begun, clauses_of as clauses_in}
 use Rattle.ct_engine.specs.declared.course.Course.{Course}
 use Rattle.ct_clauses.specs.Initial.{AreInitialLines}
-use Rattle.ct_engine.specs.Progress.{IsClosureOf, IsBegunOver, IsSearchOver, IsTaskOf, IsAtStart}
+use Rattle.ct_base.specs.declared.base.Base.{Base}
+use Rattle.ct_base.specs.Base.{IsClosedFor}
+use Rattle.ct_engine.specs.declared.closed.Closed.{Closed}
+use Rattle.ct_engine.specs.Progress.{IsClosureOf, IsClosed, IsClosedAs, IsBegunOver, IsSearchOver, IsTaskOf, IsAtStart}
 use Rattle.ct_engine.proofs.CountLemmas.{few_trees}
 
 -- a term keeps its sort in a longer table
@@ -66,20 +70,69 @@ lines_over d terms asserts lines variables are accepted =
     let at = slice_get-from_Contains lines line inside in
     All-weaker (λ (l : Lit). IsStripped terms l.term) (λ (l : Lit). Contains variables l.term) (λ l h. are.each l.term h) line.clause (accepted at.0 line at.1).literals)
 
+-- the closure of assertions is one of itself
+closure_of_itself : (d : Declarations) (table closed : Terms) (asserts : List TermId) (closure : ClosureValue) → terms_at closed asserts ≡ terms_at table asserts → IsClosureOf d table asserts closed closure → IsClosureOf d closed asserts closed closure
+closure_of_itself d table closed asserts closure same is = record {
+  grown = ([], sym (append-nil closed));
+  sorted = is.sorted;
+  exact = λ t. subst (λ (roots : List CoreTree). HasTree closed t ↔ InClosure d roots t) (sym same) (is.exact t);
+  is_closed = is.is_closed;
+  split = is.split;
+  rising = is.rising;
+  variables = subst (λ (roots : List CoreTree). HasVariables d roots closure.variables) (sym same) is.variables;
+}
+
+-- a closed table as one value
+pub closed_as : (d : Declarations) (table closed : Terms) (asserts roots : List TermId) (closure : ClosureValue) → roots ≡ asserts → terms_at closed asserts ≡ terms_at table asserts → All (IsBoolean closed) asserts → IsClosureOf d table asserts closed closure
+    → (made : Closed) → made.table ≡ closed → made.roots.items ≡ roots → made.closure ≡ closure → IsClosedAs d table asserts made
+closed_as d table closed asserts roots closure same trees booleans is made same_table same_roots same_closure =
+    let ids : made.roots.items ≡ asserts = same_roots ∙ same in
+    record {
+      is_closed = record {
+        closure =
+            subst (λ (ts : Terms). IsClosureOf d ts made.roots.items ts made.closure) (sym same_table)
+            (subst (λ (l : List TermId). IsClosureOf d closed l closed made.closure) (sym ids)
+            (subst (λ (v : ClosureValue). IsClosureOf d closed asserts closed v) (sym same_closure) (closure_of_itself d table closed asserts closure trees is)));
+        booleans = subst (λ (ts : Terms). All (IsBoolean ts) made.roots.items) (sym same_table) (subst (All (IsBoolean closed)) (sym ids) booleans);
+      };
+      trees =
+          ap (λ (ts : Terms). terms_at ts made.roots.items) same_table ∙ ap (λ (l : List TermId). terms_at closed l) ids ∙ trees;
+    }
+
+-- the closed table of a base, copied
+pub closed_from : (d : Declarations) (table : Terms) (asserts : List TermId) (base : Base) (closure : ClosureValue) → IsClosedFor d (terms_at table asserts) base closure
+    → (made : Closed) → made.table ≡ base.table → made.roots.items ≡ base.roots.items → made.closure ≡ closure → IsClosedAs d table asserts made
+closed_from d table asserts base closure is made same_table same_roots same_closure =
+    let own : IsClosureOf d base.table base.roots.items base.table closure = record {
+      grown = ([], sym (append-nil base.table));
+      sorted = is.sorted;
+      exact = λ t. subst (λ (trees : List CoreTree). HasTree base.table t ↔ InClosure d trees t) (sym is.roots) (is.exact t);
+      is_closed = is.is_closed;
+      split = is.splits;
+      rising = is.rising;
+      variables = subst (λ (trees : List CoreTree). HasVariables d trees closure.variables) (sym is.roots) is.variables;
+    } in
+    let whole = closed_as d base.table base.table base.roots.items base.roots.items closure refl refl is.booleans own made same_table same_roots same_closure in
+    record { is_closed = whole.is_closed; trees = whole.trees ∙ is.roots }
+
 -- a search over the closure of the assertions is of their task
-pub IsTaskOf-begun : (d : Declarations) (table closed : Terms) (asserts : List TermId) (budget : ℕ) (closure : ClosureValue) (course : Course) → terms_at closed asserts ≡ terms_at table asserts → IsClosureOf d table asserts closed closure → IsBegunOver d closed asserts course.derivation → IsSearchOver course.derivation budget course.search → course.variables ≡ closure.variables → IsTaskOf d table asserts course
-IsTaskOf-begun d table closed asserts budget closure course same closed_is begun_is over counted = record {
+pub IsTaskOf-begun : (d : Declarations) (table closed : Terms) (asserts roots : List TermId) (budget : ℕ) (closure : ClosureValue) (course : Course) → terms_at closed roots ≡ terms_at table asserts → IsClosureOf d closed roots closed closure → IsBegunOver d closed roots course.derivation → IsSearchOver course.derivation budget course.search → course.variables ≡ closure.variables → IsTaskOf d table asserts course
+IsTaskOf-begun d table closed asserts roots budget closure course same closed_is begun_is over counted = record {
   declarations = begun_is.declarations;
   asserted = ap (λ (ts : Terms). terms_at ts course.derivation.asserts) begun_is.terms_are ∙ ap (λ (ids : List TermId). terms_at closed ids) begun_is.asserts_are ∙ same;
-  closure = λ t. subst (λ (ts : Terms). HasTree ts t ↔ InClosure d (terms_at table asserts) t) (sym begun_is.terms_are) (closed_is.exact t);
-  variables = subst (HasVariables d (terms_at table asserts)) (sym counted) closed_is.variables;
+  closure = λ t.
+      subst (λ (ts : Terms). HasTree ts t ↔ InClosure d (terms_at table asserts) t) (sym begun_is.terms_are)
+      (subst (λ (trees : List CoreTree). HasTree closed t ↔ InClosure d trees t) same (closed_is.exact t));
+  variables =
+      subst (HasVariables d (terms_at table asserts)) (sym counted)
+      (subst (λ (trees : List CoreTree). HasVariables d trees closure.variables) same closed_is.variables);
   sorted = subst (AreSorted d) (sym begun_is.terms_are) closed_is.sorted;
   is_closed = subst (IsClosedTable d) (sym begun_is.terms_are) closed_is.is_closed;
 }
 
 -- and it is at its start
-pub IsAtStart-begun : (d : Declarations) (table closed : Terms) (asserts : List TermId) (budget : ℕ) (closure : ClosureValue) (course : Course) → terms_at closed asserts ≡ terms_at table asserts → IsClosureOf d table asserts closed closure → IsBegunOver d closed asserts course.derivation → IsSearchOver course.derivation budget course.search → course.moves.items ≡ [] → course.initial ≡ length course.derivation.rec.lines → course.kept ≡ 0 → IsAtStart d course
-IsAtStart-begun d table closed asserts budget closure course same closed_is begun_is over moves initial kept =
+pub IsAtStart-begun : (d : Declarations) (closed : Terms) (roots : List TermId) (budget : ℕ) (closure : ClosureValue) (course : Course) → IsClosureOf d closed roots closed closure → IsBegunOver d closed roots course.derivation → IsSearchOver course.derivation budget course.search → course.moves.items ≡ [] → course.initial ≡ length course.derivation.rec.lines → course.kept ≡ 0 → IsAtStart d course
+IsAtStart-begun d closed roots budget closure course closed_is begun_is over moves initial kept =
     let derived = course.derivation in
     record {
       decided = ap (λ (s : SearchState). s.decided) over.only_begun;
@@ -88,11 +141,10 @@ IsAtStart-begun d table closed asserts budget closure course same closed_is begu
       kept = kept;
       closure = λ t.
           subst (λ (ids : List TermId). HasTree derived.rec.terms t ↔ InClosure d (terms_at derived.rec.terms ids) t) (sym begun_is.asserts_are)
-          (subst (λ (ts : Terms). HasTree ts t ↔ InClosure d (terms_at ts asserts) t) (sym begun_is.terms_are)
-          (subst (λ (roots : List CoreTree). HasTree closed t ↔ InClosure d roots t) (sym same) (closed_is.exact t)));
+          (subst (λ (ts : Terms). HasTree ts t ↔ InClosure d (terms_at ts roots) t) (sym begun_is.terms_are) (closed_is.exact t));
       lines =
           subst (λ (ids : List TermId). AreInitialLines d derived.rec.terms ids derived.rec.lines) (sym begun_is.asserts_are)
-          (subst (λ (ts : Terms). AreInitialLines d ts asserts derived.rec.lines) (sym begun_is.terms_are) begun_is.lines);
+          (subst (λ (ts : Terms). AreInitialLines d ts roots derived.rec.lines) (sym begun_is.terms_are) begun_is.lines);
     }
 
 -- it begins over its own declarations, terms and assertions

@@ -1,5 +1,5 @@
 -- What a check takes from a store of clauses that the theory gave, and what it leaves there.
-use Rattle.std.specs.Prelude.{◌≡◌, ◌↔◌, ℕ, zero, suc, ◌+◌, ◌≤◌, List, [], ◌∷◌, ◌++◌, length}
+use Rattle.std.specs.Prelude.{◌≡◌, ◌↔◌, ℕ, zero, suc, ◌+◌, ◌≤◌, List, [], ◌∷◌, ◌++◌, length, drop}
 use Rattle.ct_sorts.specs.Declarations.{Declarations}
 use Rattle.ct_sorts.specs.Grown.{Begins}
 use Rattle.ct_terms.specs.CoreTree.{CoreTree}
@@ -43,10 +43,14 @@ AddsKept d store derived begun moves = Begins (adds_after (length begun.initial)
 abbrev pub TakesOthers : (d : Declarations) (old : Stored) (derived : Derived) → IsBegunWith d old derived → Stored → Type 0
 TakesOthers d old derived begun new = Takes old derived.rec.terms (theory_lemmas begun.others) new
 
+-- the store has taken the clauses that the theory gave after some line of the derivation, in order
+abbrev pub TakesLater : Stored → Derived → Stored → Type 0
+TakesLater old derived new = (first : ℕ) × Takes old derived.rec.terms (theory_lemmas (drop first derived.rec.lines)) new
+
 -- what a check took from the store, and what it left there
 abbrev pub HasKept : Declarations → Stored → Stored → Verdict → Type 0
 HasKept d old new (Sat i) = new ≡ old
-HasKept d old new (Unsat derived) = (begun : IsBegunWith d old derived) × TakesOthers d old derived begun new
+HasKept d old new (Unsat derived) = TakesLater old derived new
 HasKept d old new (Unknown spent) =
     (begun : IsBegunWith d old spent.derivation) × AddsKept d old spent.derivation begun spent.moves × TakesOthers d old spent.derivation begun new
 
@@ -68,9 +72,13 @@ AddsFirst course = Begins (adds_after course.initial course.kept) course.moves.i
 abbrev pub HasFirst : Course → Type 0
 HasFirst course = course.initial + course.kept ≤ length course.derivation.rec.lines
 
--- what is found began with the store
+-- the derivation is over these declarations and has so many lines
+abbrev pub HasLines : Declarations → Derived → ℕ → Type 0
+HasLines d derived count = (derived.declarations ≡ d) × (count ≤ length derived.rec.lines)
+
+-- what is found: the record of a search that was spent began with the store
 abbrev pub IsOutcomeWith : Declarations → Stored → ℕ → Outcome → Type 0
-IsOutcomeWith d store count (outcome.Unsat derived) = IsBegunAt d store derived count
+IsOutcomeWith d store count (outcome.Unsat derived) = HasLines d derived count
 IsOutcomeWith d store count (outcome.Unknown spent) =
     (begun : IsBegunWith d store spent.derivation) × (length begun.initial + length begun.moved ≡ count) × AddsKept d store spent.derivation begun spent.moves
 IsOutcomeWith d store count (outcome.Candidate candidate) = Unit {0}
@@ -78,6 +86,6 @@ IsOutcomeWith d store count (outcome.Candidate candidate) = Unit {0}
 -- what a verdict says of the store that its search began with, so many lines of which stand before the others with the initial ones
 abbrev pub IsVerdictWith : Declarations → Stored → ℕ → Verdict → Type 0
 IsVerdictWith d store count (Sat i) = Unit {0}
-IsVerdictWith d store count (Unsat derived) = IsBegunAt d store derived count
+IsVerdictWith d store count (Unsat derived) = HasLines d derived count
 IsVerdictWith d store count (Unknown spent) =
     (begun : IsBegunWith d store spent.derivation) × (length begun.initial + length begun.moved ≡ count) × AddsKept d store spent.derivation begun spent.moves

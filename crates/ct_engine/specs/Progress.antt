@@ -4,7 +4,7 @@ use Rattle.ct_sorts.specs.Declarations.{Declarations}
 use Rattle.ct_sorts.specs.Grown.{Begins}
 use Rattle.ct_terms.specs.declared.ids.TermId.{TermId}
 use Rattle.ct_terms.specs.Clause.{Clause}
-use Rattle.ct_terms.specs.Terms.{Terms, AreSorted}
+use Rattle.ct_terms.specs.Terms.{Terms, AreSorted, IsBoolean}
 use Rattle.ct_terms.specs.CoreTree.{CoreTree}
 use Rattle.ct_closure.specs.Closed.{InClosure, HasVariables}
 use Rattle.ct_closure.specs.ClosedTable.{HasTree, IsClosedTable, AreRising, ClosureValue, terms_at}
@@ -24,6 +24,7 @@ use Rattle.ct_theory.specs.Entailment.{IsSaturation}
 use Rattle.ct_theory.specs.Consulting.{IsReady, HaveInCommon}
 use Rattle.ct_engine.specs.declared.verdict.Move.{Move}
 use Rattle.ct_engine.specs.declared.asked.Asked.{Asked}
+use Rattle.ct_engine.specs.declared.closed.Closed.{Closed}
 use Rattle.ct_engine.specs.declared.course.Course.{Course}
 use Rattle.ct_engine.specs.declared.outcome.Ending.{Ending}
 use Rattle.ct_engine.specs.declared.outcome.Ending.TheVariants as ending
@@ -161,6 +162,16 @@ pub record IsClosureOf (d : Declarations) (table : Terms) (asserts : List TermId
   pub split : AreSplitTerms d closed closure.split
   pub rising : AreRising closure.split
   pub variables : HasVariables d (terms_at table asserts) closure.variables
+
+-- the table is exactly the closure of its roots, which are Boolean
+pub record IsClosed (d : Declarations) (closed : Closed) : Type 0 where
+  pub closure : IsClosureOf d closed.table closed.roots.items closed.table closed.closure
+  pub booleans : All (IsBoolean closed.table) closed.roots.items
+
+-- and the roots have the trees of these assertions
+pub record IsClosedAs (d : Declarations) (table : Terms) (asserts : List TermId) (closed : Closed) : Type 0 where
+  pub is_closed : IsClosed d closed
+  pub trees : terms_at closed.table closed.roots.items ≡ terms_at table asserts
 
 -- the derivation is over these declarations, terms and assertions, and has exactly the initial lines
 pub record IsBegunOver (d : Declarations) (terms : Terms) (asserts : List TermId) (derived : Derived) : Type 0 where

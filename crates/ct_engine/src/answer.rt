@@ -28,7 +28,8 @@ use ct_terms::{Lit, TermId, TermTable};
 use ct_theory::Theory;
 use std::alloc::Global;
 
-/// What the search found, which asked the theory and ended so.
+/// What the search found, which asked the theory and ended so, and how many lines of its derivation stand before those of which
+/// the store takes: initial ones and those of the store.
 pub(crate) fn conclude(
     alloc: Global,
     sig: &Signature,
@@ -38,31 +39,34 @@ pub(crate) fn conclude(
     course: Box<Course>,
     theory: Theory,
     ending: Ending,
-) -> Result<Outcome, SolveError>
+) -> Result<(Outcome, usize), SolveError>
     requires sorted { AreSorted sig.now table.now }
     requires asserts { All (IsBoolean table.now) asserts.now }
     requires task { IsTaskOf sig.now table.now asserts.now course.value }
     requires ended { IsEnded course.value theory ending }
     requires spent { ending ≡ Ending.Spent → IsOnRecord budget course.value }
     requires stand { HasFirst course.value }
-    ensures outcome { IfOk result (IsOutcome sig.now table.now asserts.now budget) }
+    ensures outcome { IfOk result (λ found. IsOutcome sig.now table.now asserts.now budget found.0) }
 
-    // It begins with the clauses of a store where the search did.
-    ensures begun { (d : Declarations) (store : Stored) → IsCourseWith d store course.value → (ending ≡ Ending.Spent → AddsFirst course.value)
-        → IfOk result (IsOutcomeWith d store (course.value.initial + course.value.kept)) }
+    // The record of one that is spent begins with the clauses of a store where the search did.
+    ensures begun { (store : Stored) → IsCourseWith sig.now store course.value → (ending ≡ Ending.Spent → AddsFirst course.value)
+        → IfOk result (λ found. IsOutcomeWith sig.now store found.1 found.0) }
     ensures err { IsErrOf result SolveError.TooLarge → ⊥ }
 {
     match ending {
         Ending::Refuted => {
             let first = first_count(&course);
             let whole = refutation_of(sig, table, asserts, course);
-            let derivation = shortened(alloc, sig, table, asserts, whole, first)?;
-            Ok(Outcome::Unsat(derivation))
+            let (derivation, left) = shortened(alloc, sig, table, asserts, whole, first)?;
+            Ok((Outcome::Unsat(derivation), left))
         }
-        Ending::Spent => Ok(Outcome::Unknown(spending_of(course, budget))),
+        Ending::Spent => {
+            let first = first_count(&course);
+            Ok((Outcome::Unknown(spending_of(course, budget)), first))
+        }
         Ending::Saturated(order) => {
             let candidate = candidate_of(alloc, course, theory.into_classes(), order)?;
-            Ok(Outcome::Candidate(candidate))
+            Ok((Outcome::Candidate(candidate), 0))
         }
     }
 }

@@ -6,8 +6,9 @@
 //!
 //! ```text
 //! solve_kept(table, asserts, budget, store):                                    solving.rt
-//!     table  := a copy of table, closed under what the rules need; TooLarge     prepare.rt, ct_closure
-//!               if it has more than 200,000 terms
+//!     table  := a copy of table, closed under what the rules need; or of one    closed.rt, ct_closure,
+//!               that is kept from check to check; TooLarge if it has more       ct_base
+//!               than 200,000 terms
 //!     lines  := all input, gate and exhaust lines over table                    prepare.rt, ct_clauses
 //!     search := the clauses of lines, recorded, no decision                     initial.rt, ct_sat
 //!     add the lemmas of store whose terms are in table and that the             keeping.rt, ct_kept
@@ -115,6 +116,7 @@
 mod again;
 mod answer;
 mod asked;
+mod closed;
 mod course;
 mod decide;
 mod draft;
@@ -145,6 +147,6 @@ mod verdict;
 
 pub use ct_kept::{Kept, KeptError, Lemma};
 pub use error::SolveError;
-pub use solving::{solve, solve_kept};
+pub use solving::{solve, solve_kept, solve_on};
 pub use theorems::spent_searches;
 pub use verdict::{Move, Spent, Verdict};

@@ -1,53 +1,53 @@
-//! What a search begins with: the closure of the assertions, its initial lines, and their clauses.
-ghost use Rattle.std.specs.Prelude.{◌≡◌, [], true, All, IfOk, OnOk, IsErrOf};
+//! What a search begins with: a closed table, its initial lines, and their clauses.
+ghost use Rattle.std.specs.Prelude.{◌≡◌, true, List, IfOk, IsErrOf};
 ghost use Rattle.ct_card.specs.Sizes.{AreSizes};
-ghost use Rattle.ct_terms.specs.Terms.{AreSorted, IsBoolean};
-ghost use Rattle.ct_closure.specs.Closed.{HasMoreThan, most_closure_terms};
-ghost use Rattle.ct_closure.specs.ClosedTable.{AreSubtermsOf, IsClosedTable, AreRising, terms_at};
+ghost use Rattle.ct_terms.specs.declared.ids.TermId.{TermId};
+ghost use Rattle.ct_terms.specs.Terms.{Terms};
+ghost use Rattle.ct_closure.specs.ClosedTable.{IsClosedTable, AreRising, terms_at};
 ghost use Rattle.ct_log.specs.Recorded.{AreJudges};
 ghost use Rattle.ct_clauses.specs.Initial.{AreSplitTerms};
-ghost use Rattle.ct_engine.specs.Progress.{IsUnderWay, IsTaskOf, IsClosureOf, IsBegunOver, IsSearchOver, IsAtStart};
+ghost use Rattle.ct_engine.specs.Progress.{IsUnderWay, IsTaskOf, IsClosed, IsBegunOver, IsSearchOver, IsAtStart};
 
+use crate::closed::Closed;
 use crate::course::{Course, line_count};
 use crate::error::SolveError;
 use crate::guide::Guide;
 use crate::initial::add_lines;
 use ct_card::Sizes;
 use ct_clauses::clauses;
-use ct_closure::{CloseError, Closure, close};
+use ct_closure::Closure;
 use ct_log::Derivation;
 use ct_sat::Search;
 use ct_sorts::Signature;
-use ct_terms::{TermId, TermTable, core_trees};
+use ct_terms::{TermId, TermTable};
 use std::alloc::Global;
 
-/// A search over the closure of the assertions that has made no move.
+/// A search over a closed table that has made no move. It is a search for all assertions of any table that have the trees of the
+/// roots.
 pub(crate) fn prepare(
     alloc: Global,
     sig: &Signature,
     sizes: &Sizes,
-    table: &TermTable,
-    asserts: &[TermId],
+    closed: Closed,
     budget: u64,
 ) -> Result<Course, SolveError>
     requires sizes { AreSizes sig.now sizes.now }
-    requires sorted { AreSorted sig.now table.now }
-    requires asserts { All (IsBoolean table.now) asserts.now }
-    requires exact { AreSubtermsOf table.now asserts.now }
+    requires closed { IsClosed sig.now closed }
     ensures declarations { IfOk result (λ course. course.derivation.declarations ≡ sig.now) }
     ensures recorded { IfOk result (λ course. course.recorded ≡ true) }
-    ensures task { IfOk result (IsTaskOf sig.now table.now asserts.now) }
+    ensures task { IfOk result (λ course. (table : Terms) (asserts : List TermId) → terms_at closed.table closed.roots.items ≡ terms_at table asserts → IsTaskOf sig.now table asserts course) }
     ensures under_way { IfOk result IsUnderWay }
     ensures start { IfOk result (IsAtStart sig.now) }
-    ensures too_large { IsErrOf result SolveError.TooLarge → HasMoreThan sig.now (terms_at table.now asserts.now) most_closure_terms }
-    ensures fits { OnOk result (HasMoreThan sig.now (terms_at table.now asserts.now) most_closure_terms → ⊥) }
+    ensures err { IsErrOf result SolveError.TooLarge → ⊥ }
 {
-    let mut closed = table.copy()?;
-    let closure = closure_of(alloc, sig, sizes, &mut closed, asserts)?;
-    core_trees();
-    let _terms = closed.len();
+    let Closed {
+        table,
+        roots,
+        closure,
+    } = closed;
+    let _terms = table.len();
     let variables = closure.variables();
-    let begun = begin(alloc, sig, sizes, closed, asserts, &closure)?;
+    let begun = begin(alloc, sig, sizes, table, roots, &closure)?;
     drop(closure);
     let initial = line_count(&begun);
     let derivation = Box::new(alloc, begun)?;
@@ -66,46 +66,22 @@ pub(crate) fn prepare(
     })
 }
 
-// Closes the table of the assertions.
-fn closure_of(
-    alloc: Global,
-    sig: &Signature,
-    sizes: &Sizes,
-    table: &mut TermTable,
-    asserts: &[TermId],
-) -> Result<Closure, SolveError>
-    requires sizes { AreSizes sig.now sizes.now }
-    requires sorted { AreSorted sig.now table.old }
-    requires asserts { All (IsBoolean table.old) asserts.now }
-    requires exact { AreSubtermsOf table.old asserts.now }
-    ensures closure { IfOk result (IsClosureOf sig.now table.old asserts.now table.new) }
-    ensures too_large { IsErrOf result SolveError.TooLarge → HasMoreThan sig.now (terms_at table.old asserts.now) most_closure_terms }
-    ensures fits { OnOk result (HasMoreThan sig.now (terms_at table.old asserts.now) most_closure_terms → ⊥) }
-{
-    match close(alloc, sig, sizes, table, asserts) {
-        Ok(closure) => Ok(closure),
-        Err(CloseError::TooLarge) => Err(SolveError::TooLarge),
-        Err(CloseError::NoMemory) => Err(SolveError::NoMemory),
-    }
-}
-
 // The derivation whose lines are the initial lines.
 fn begin(
     alloc: Global,
     sig: &Signature,
     sizes: &Sizes,
     table: TermTable,
-    asserts: &[TermId],
+    asserts: Vec<TermId>,
     closure: &Closure,
 ) -> Result<Derivation, SolveError>
-    requires judges { AreJudges sig.now sizes.now table asserts.now }
+    requires judges { AreJudges sig.now sizes.now table asserts.items }
     requires closed { IsClosedTable sig.now table }
     requires split { AreSplitTerms sig.now table closure.now.split }
     requires rising { AreRising closure.now.split }
-    ensures begun { IfOk result (IsBegunOver sig.now table asserts.now) }
+    ensures begun { IfOk result (IsBegunOver sig.now table asserts.items) }
     ensures err { IsErrOf result SolveError.TooLarge → ⊥ }
 {
-    let asserts = Vec::from_slice(alloc, asserts)?;
     let mut derivation = Derivation::new(alloc, sig, sizes, table, asserts);
     clauses(alloc, sig, closure, &mut derivation)?;
     Ok(derivation)

@@ -1,11 +1,9 @@
 //! Trims a refutation to the lines on which its empty clause rests.
-ghost use Rattle.std.specs.Prelude.{List, IfOk, OnOk, IsErrOf};
+ghost use Rattle.std.specs.Prelude.{◌≡◌, ◌≤◌, List, length, IfOk, OnOk, IsErrOf};
 ghost use Rattle.ct_sorts.specs.Declarations.{Declarations};
 ghost use Rattle.ct_terms.specs.declared.ids.TermId.{TermId};
 ghost use Rattle.ct_terms.specs.Terms.{Terms};
-ghost use Rattle.ct_kept.specs.Kept.{Stored};
 ghost use Rattle.ct_engine.specs.Verdict.{IsRefutation};
-ghost use Rattle.ct_engine.specs.Keeping.{IsBegunAt};
 
 use crate::error::SolveError;
 use ct_core::{CoreError, trim};
@@ -14,7 +12,7 @@ use ct_sorts::Signature;
 use ct_terms::{TermId, TermTable};
 use std::alloc::Global;
 
-/// The refutation with the first lines, so many, and with those of the others alone that its empty clause rests on.
+/// The refutation with those lines alone that its empty clause rests on, and how many of its first lines, so many, are left.
 pub(crate) fn shortened(
     alloc: Global,
     sig: &Signature,
@@ -22,28 +20,26 @@ pub(crate) fn shortened(
     asserts: &[TermId],
     derivation: Derivation,
     first: usize,
-) -> Result<Derivation, SolveError>
+) -> Result<(Derivation, usize), SolveError>
     requires refutation { IsRefutation sig.now table.now asserts.now derivation }
-    ensures refutation { IfOk result (IsRefutation sig.now table.now asserts.now) }
-
-    // Where it began with the clauses of a store, it does so.
-    ensures begun { (d : Declarations) (store : Stored) → IsBegunAt d store derivation first → IfOk result (λ new. IsBegunAt d store new first) }
+    ensures refutation { IfOk result (λ found. IsRefutation sig.now table.now asserts.now found.0) }
+    ensures within { IfOk result (λ found. found.1 ≤ length found.0.rec.lines) }
     ensures err { IsErrOf result SolveError.TooLarge → ⊥ }
 {
     let mut new = Box::new(alloc, derivation)?;
-    shorten(alloc, &mut new, first as u64)?;
-    Ok(Box::into_inner(new))
+    let left = shorten(alloc, &mut new, first)?;
+    Ok((Box::into_inner(new), left))
 }
 
-// Cuts the refutation down.
+// Cuts the refutation down. How many of its first lines are left.
 #[tactic(auto, using(crate::proofs::ShorteningLemmas::refutation_shortened))]
-fn shorten(alloc: Global, derivation: &mut Derivation, first: u64) -> Result<(), SolveError>
+fn shorten(alloc: Global, derivation: &mut Derivation, first: usize) -> Result<usize, SolveError>
     ensures refutation { OnOk result ((d : Declarations) (table : Terms) (asserts : List TermId) → IsRefutation d table asserts derivation.old → IsRefutation d table asserts derivation.new) }
-    ensures begun { OnOk result ((d : Declarations) (store : Stored) → IsBegunAt d store derivation.old first → IsBegunAt d store derivation.new first) }
+    ensures within { IfOk result (λ left. left ≤ length derivation.new.rec.lines) }
     ensures err { IsErrOf result SolveError.TooLarge → ⊥ }
 {
-    match trim(alloc, derivation, first) {
-        Ok(()) => Ok(()),
+    match trim(alloc, derivation, 0, first) {
+        Ok(left) => Ok(left),
         Err(CoreError) => Err(SolveError::NoMemory),
     }
 }

@@ -1,6 +1,7 @@
 //! A check of the assertions at some of the places.
 ghost use Rattle.std.specs.Prelude.{◌≡◌, ◌<◌, List, All, Contains, Some, length, slice_get, IfOk};
 ghost use Rattle.ct_terms.specs.declared.ids.TermId.{TermId};
+ghost use Rattle.ct_card.specs.Sizes.{AreSizes};
 ghost use Rattle.ct_terms.specs.Terms.{AreSorted, IsBoolean};
 ghost use Rattle.ct_closure.specs.Closed.{HasMoreThan, most_closure_terms};
 ghost use Rattle.ct_closure.specs.ClosedTable.{AreSubtermsOf, terms_at};
@@ -9,6 +10,7 @@ ghost use Rattle.ct_engine.specs.Verdict.{IsVerdict};
 
 use crate::error::ShrinkError;
 use crate::facts::models;
+use ct_card::Sizes;
 use ct_engine::{Kept, SolveError, Verdict, solve_kept};
 use ct_restriction::restrict;
 use ct_sorts::Signature;
@@ -19,12 +21,14 @@ use std::alloc::Global;
 pub(crate) fn verdict_at(
     alloc: Global,
     sig: &Signature,
+    sizes: &Sizes,
     table: &TermTable,
     asserts: &[TermId],
     budget: u64,
     places: &[u64],
     kept: &mut Kept,
 ) -> Result<Verdict, ShrinkError>
+    requires sizes { AreSizes sig.now sizes.now }
     requires sorted { AreSorted sig.now table.now }
     requires asserts { All (IsBoolean table.now) asserts.now }
     requires fits { HasMoreThan sig.now (terms_at table.now asserts.now) most_closure_terms → ⊥ }
@@ -34,7 +38,16 @@ pub(crate) fn verdict_at(
     ensures kept { AreSorted sig.now kept.new.table }
 {
     let chosen = chosen_terms(alloc, asserts, places)?;
-    let verdict = verdict_on(alloc, sig, table, asserts, budget, chosen.as_slice(), kept)?;
+    let verdict = verdict_on(
+        alloc,
+        sig,
+        sizes,
+        table,
+        asserts,
+        budget,
+        chosen.as_slice(),
+        kept,
+    )?;
     Ok(verdict)
 }
 
@@ -67,12 +80,14 @@ fn term_at(asserts: &[TermId], place: u64) -> TermId
 fn verdict_on(
     alloc: Global,
     sig: &Signature,
+    sizes: &Sizes,
     table: &TermTable,
     asserts: &[TermId],
     budget: u64,
     chosen: &[TermId],
     kept: &mut Kept,
 ) -> Result<Verdict, ShrinkError>
+    requires sizes { AreSizes sig.now sizes.now }
     requires sorted { AreSorted sig.now table.now }
     requires asserts { All (IsBoolean table.now) asserts.now }
     requires fits { HasMoreThan sig.now (terms_at table.now asserts.now) most_closure_terms → ⊥ }
@@ -83,7 +98,15 @@ fn verdict_on(
 {
     models();
     let (restricted, roots) = restrict(alloc, sig, table, chosen)?;
-    let verdict = verdict_over(alloc, sig, &restricted, roots.as_slice(), budget, kept)?;
+    let verdict = verdict_over(
+        alloc,
+        sig,
+        sizes,
+        &restricted,
+        roots.as_slice(),
+        budget,
+        kept,
+    )?;
     drop(restricted);
     Ok(verdict)
 }
@@ -92,11 +115,13 @@ fn verdict_on(
 fn verdict_over(
     alloc: Global,
     sig: &Signature,
+    sizes: &Sizes,
     table: &TermTable,
     asserts: &[TermId],
     budget: u64,
     kept: &mut Kept,
 ) -> Result<Verdict, ShrinkError>
+    requires sizes { AreSizes sig.now sizes.now }
     requires sorted { AreSorted sig.now table.now }
     requires asserts { All (IsBoolean table.now) asserts.now }
     requires exact { AreSubtermsOf table.now asserts.now }
@@ -105,7 +130,7 @@ fn verdict_over(
     ensures verdict { IfOk result (IsVerdict sig.now table.now asserts.now budget) }
     ensures kept { AreSorted sig.now kept.new.table }
 {
-    match solve_kept(alloc, sig, table, asserts, budget, kept) {
+    match solve_kept(alloc, sig, sizes, table, asserts, budget, kept) {
         Ok(verdict) => Ok(verdict),
         Err(SolveError::TooLarge) => unreachable!(),
         Err(SolveError::NoMemory) => Err(ShrinkError),

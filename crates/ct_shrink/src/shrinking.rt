@@ -3,6 +3,7 @@
 //! A check without each assertion in turn says whether it is needed: where the others are refuted, it goes (the deletion filter of
 //! Chinneck and Dravnieks 1991).
 ghost use Rattle.std.specs.Prelude.{◌≡◌, ◌+◌, ◌<◌, ◌≤◌, ◌∷◌, ◌++◌, [], ℕ, drop, All, Some, length, slice_get, IfOk, OnOk};
+ghost use Rattle.ct_card.specs.Sizes.{AreSizes};
 ghost use Rattle.ct_terms.specs.Terms.{AreSorted, IsBoolean};
 ghost use Rattle.ct_closure.specs.Closed.{HasMoreThan, most_closure_terms};
 ghost use Rattle.ct_closure.specs.ClosedTable.{terms_at};
@@ -13,6 +14,7 @@ use crate::asking::verdict_at;
 use crate::error::ShrinkError;
 use crate::facts::models;
 use crate::shrunk::{Need, Shrunk};
+use ct_card::Sizes;
 use ct_core::UnsatCore;
 use ct_engine::{Kept, Verdict};
 use ct_log::Derivation;
@@ -41,11 +43,13 @@ pub(crate) struct Draft {
 pub fn shrink(
     alloc: Global,
     sig: &Signature,
+    sizes: &Sizes,
     table: &TermTable,
     asserts: &[TermId],
     budget: u64,
     core: UnsatCore,
 ) -> Result<Shrunk, ShrinkError>
+    requires sizes { AreSizes sig.now sizes.now }
     requires sorted { AreSorted sig.now table.now }
     requires asserts { All (IsBoolean table.now) asserts.now }
     requires fits { HasMoreThan sig.now (terms_at table.now asserts.now) most_closure_terms → ⊥ }
@@ -58,6 +62,7 @@ pub fn shrink(
     consider_all(
         alloc,
         sig,
+        sizes,
         table,
         asserts,
         budget,
@@ -127,6 +132,7 @@ fn refuted(
 fn consider_all(
     alloc: Global,
     sig: &Signature,
+    sizes: &Sizes,
     table: &TermTable,
     asserts: &[TermId],
     budget: u64,
@@ -134,6 +140,7 @@ fn consider_all(
     kept: &mut Kept,
     draft: &mut Draft,
 ) -> Result<(), ShrinkError>
+    requires sizes { AreSizes sig.now sizes.now }
     requires sorted { AreSorted sig.now table.now }
     requires asserts { All (IsBoolean table.now) asserts.now }
     requires fits { HasMoreThan sig.now (terms_at table.now asserts.now) most_closure_terms → ⊥ }
@@ -143,7 +150,7 @@ fn consider_all(
 {
     for index in 0..places.len() {
         consider(
-            alloc, sig, table, asserts, budget, places, index, kept, draft,
+            alloc, sig, sizes, table, asserts, budget, places, index, kept, draft,
         )?;
     }
     Ok(())
@@ -153,6 +160,7 @@ fn consider_all(
 fn consider(
     alloc: Global,
     sig: &Signature,
+    sizes: &Sizes,
     table: &TermTable,
     asserts: &[TermId],
     budget: u64,
@@ -161,6 +169,7 @@ fn consider(
     kept: &mut Kept,
     draft: &mut Draft,
 ) -> Result<(), ShrinkError>
+    requires sizes { AreSizes sig.now sizes.now }
     requires sorted { AreSorted sig.now table.now }
     requires asserts { All (IsBoolean table.now) asserts.now }
     requires fits { HasMoreThan sig.now (terms_at table.now asserts.now) most_closure_terms → ⊥ }
@@ -173,7 +182,16 @@ fn consider(
     let place = place_at(places, index);
     let later = after(places, index + 1);
     let asked = others(alloc, draft.places.as_slice(), later)?;
-    let verdict = verdict_at(alloc, sig, table, asserts, budget, asked.as_slice(), kept)?;
+    let verdict = verdict_at(
+        alloc,
+        sig,
+        sizes,
+        table,
+        asserts,
+        budget,
+        asked.as_slice(),
+        kept,
+    )?;
     match verdict {
         Verdict::Sat(interp) => {
             keep(draft, place, Need::Shown(interp))?;

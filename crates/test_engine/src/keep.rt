@@ -7,6 +7,7 @@ ghost use Rattle.test_engine.specs.Asserted.{IsAsserted};
 ghost use Rattle.test_engine.specs.Scopes.{IsSound};
 ghost use Rattle.test_engine.specs.Verdicts.{IsOver};
 
+use crate::show::sizes_of;
 use crate::solve::show;
 use crate::table::{Assertions, assert_formulas};
 use ct_cases::{CaseError, extends_start, items_of};
@@ -82,9 +83,11 @@ fn verdict_over(
     ensures own { IfOk result (λ found. IfSome found (λ verdict. IsOver scope.now.sig verdict.value)) }
     ensures sorted { AreSorted scope.now.sig kept.new.table }
 {
+    let sizes = sizes_of(alloc, &scope.sig)?;
     match solve_kept(
         alloc,
         &scope.sig,
+        &sizes,
         &formulas.table,
         &formulas.asserts,
         budget,

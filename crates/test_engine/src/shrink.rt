@@ -136,9 +136,11 @@ fn show(
     requires fits { HasMoreThan sig.now (terms_at formulas.now.table.value formulas.now.asserts.items) most_closure_terms → ⊥ }
     requires core { IsCoreOf sig.now formulas.now.table.value formulas.now.asserts.items core.value.places.items core.value.derivation }
 {
+    let sizes = sizes_of(alloc, sig)?;
     match shrink(
         alloc,
         sig,
+        &sizes,
         &formulas.table,
         &formulas.asserts,
         limit,

@@ -2,8 +2,8 @@ use Rattle.std.proofs.Common.{◌≡◌, ◌+◌, sym, ap, subst, ◌∙◌}
 use Rattle.ct_congr.specs.State.{State}
 use Rattle.ct_theory.specs.Entailment.{IsSaturation}
 use Rattle.ct_engine.specs.declared.course.Course.{Course}
-use Rattle.ct_engine.specs.Keeping.{IsBegunAt, HasFirst}
-use Rattle.ct_engine.proofs.KeepingLemmas.{begun_at, spent_with}
+use Rattle.ct_engine.specs.Keeping.{HasFirst}
+use Rattle.ct_engine.proofs.KeepingLemmas.{spent_with}
 use Rattle.ct_engine.proofs.answer.conclude.Goals as goal
 
 pub refutation_of-whole-requires-clause-ends : goal.refutation_of-whole-requires-clause-ends
@@ -51,13 +51,15 @@ pub first_count-first-requires : goal.first_count-first-requires
 first_count-first-requires c = record { stand = subst (λ (x : Course). HasFirst x) (sym c.deref.ensures) c.requires.stand }
 
 pub returns-in_ok-derivation-in-Refuted-clause-begun : goal.returns-in_ok-derivation-in-Refuted-clause-begun
-returns-in_ok-derivation-in-Refuted-clause-begun c = λ d store with_store adds.
-    let course = c.args.course.value in
-    let first : c.first_count-first.result ≡ course.initial + course.kept = c.first_count-first.ensures.value ∙ ap (λ (x : Course). x.initial + x.kept) c.deref.ensures in
-    subst (IsBegunAt d store c.in_ok-derivation-in-Refuted.derivation) first
-    (c.in_ok-derivation-in-Refuted.ensures.begun d store (begun_at d store course c.refutation_of-whole.result c.first_count-first.result c.refutation_of-whole.ensures.same first with_store))
+returns-in_ok-derivation-in-Refuted-clause-begun c = λ store with_store adds.
+    (c.in_ok-derivation-in-Refuted.ensures.refutation.declarations, c.in_ok-derivation-in-Refuted.ensures.within)
+
+pub first_count-first-requires-in-Spent : goal.first_count-first-requires-in-Spent
+first_count-first-requires-in-Spent c = record { stand = subst (λ (x : Course). HasFirst x) (sym c.deref-in-Spent.ensures) c.requires.stand }
 
 pub returns-in-Spent-clause-begun : goal.returns-in-Spent-clause-begun
-returns-in-Spent-clause-begun c = λ d store with_store adds.
+returns-in-Spent-clause-begun c = λ store with_store adds.
     let course = c.args.course.value in
-    spent_with d store course c.spending_of.result.derivation c.spending_of.result.moves c.spending_of.ensures.derivation c.spending_of.ensures.moves with_store (adds c.in-Spent.is)
+    let first : c.first_count-first-in-Spent.result ≡ course.initial + course.kept = c.first_count-first-in-Spent.ensures.value ∙ ap (λ (x : Course). x.initial + x.kept) c.deref-in-Spent.ensures in
+    let h = spent_with c.args.sig.now store course c.spending_of.result.derivation c.spending_of.result.moves c.spending_of.ensures.derivation c.spending_of.ensures.moves with_store (adds c.in-Spent.is) in
+    (h.0, h.1 ∙ sym first, h.2)

@@ -17,6 +17,6 @@ pub add_kept-requires-clause-start : goal.add_kept-requires-clause-start
 add_kept-requires-clause-start c = subst (λ (x : Course). IsAtStart c.args.sig.now x) (sym c.deref_mut.ensures.value) c.in_ok-course.ensures.start
 
 pub returns-clause-task : goal.returns-clause-task
-returns-clause-task c =
-    c.in_ok-add_kept.ensures.task c.args.table.now c.args.asserts.now
-    (subst (λ (x : Course). IsTaskOf c.args.sig.now c.args.table.now c.args.asserts.now x) (sym c.deref_mut.ensures.value) c.in_ok-course.ensures.task)
+returns-clause-task c = λ table asserts same.
+    c.in_ok-add_kept.ensures.task table asserts
+    (subst (λ (x : Course). IsTaskOf c.args.sig.now table asserts x) (sym c.deref_mut.ensures.value) (c.in_ok-course.ensures.task table asserts same))

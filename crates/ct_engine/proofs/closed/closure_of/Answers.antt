@@ -1,5 +1,5 @@
 use Rattle.ct_engine.proofs.PrepareLemmas.{closure_fits}
-use Rattle.ct_engine.proofs.prepare.closure_of.Goals as goal
+use Rattle.ct_engine.proofs.closed.closure_of.Goals as goal
 
 pub returns-in-Ok-clause-fits : goal.returns-in-Ok-clause-fits
 returns-in-Ok-clause-fits c =
