@@ -1,16 +1,10 @@
 -- What a command says (SMT-LIB 2.7, section 3.9; cvc5 for codatatypes), before any name in it is looked up.
-use Rattle.std.specs.Prelude.{ℕ, Bool, List, Option}
+use Rattle.std.specs.Prelude.{ℕ, List, Option}
 use Rattle.ct_sexpr.specs.Expression.{Expression}
 use Rattle.ct_command.specs.declared.command.Family.{Family}
 use Rattle.ct_command.specs.declared.option.Setting.{Setting}
 use Rattle.ct_command.specs.declared.option.OptionName.{OptionName}
 use Rattle.ct_command.specs.declared.option.Info.{Info}
-
--- an assumption: a name or its negation, as it is written
-pub record Literal : Type 0 where
-  pub expr : Expression
-  pub name : List ℕ
-  pub negated : Bool
 
 -- a name and the sort beside it: a field of a constructor, or a parameter of a definition
 pub record Named : Type 0 where
@@ -53,7 +47,8 @@ pub data Command : Type 0 where
   -- a term, and the name with which it is labelled, where it has one
   assert : Expression → Option (List ℕ) → Command
   check_sat : Command
-  check_sat_assuming : List Literal → Command
+  -- the terms that are assumed
+  check_sat_assuming : List Expression → Command
   -- so many levels more, and so many fewer
   push : ℕ → Command
   pop : ℕ → Command

@@ -1,10 +1,10 @@
--- The forms of assertions and of assumptions (SMT-LIB 2.7, sections 3.6.5, 3.9 and 4.2.5): a term with a label, and literals.
-use Rattle.std.specs.Prelude.{ℕ, Bool, true, false, ◌&&◌, List, [], ◌∷◌, Option, Some, None, is_some, option_map, option_and_then, codes, if◌then◌else◌}
+-- The forms of assertions and of assumptions (SMT-LIB 2.7, sections 3.6.5, 3.9 and 4.2.5): a term with a label, and terms.
+use Rattle.std.specs.Prelude.{ℕ, Bool, true, false, ◌&&◌, List, [], ◌∷◌, Option, Some, None, is_some, option_map, codes, if◌then◌else◌}
 use Rattle.std.specs.List.{list_any}
 use Rattle.std.specs.Str.{bytes_eq}
 use Rattle.ct_sexpr.specs.Expression.{Expression}
-use Rattle.ct_command.specs.Command.{Command, Literal, assert, check_sat_assuming}
-use Rattle.ct_command.specs.Items.{name_of, word_of, keyword_of, items_of, each}
+use Rattle.ct_command.specs.Command.{Command, assert, check_sat_assuming}
+use Rattle.ct_command.specs.Items.{name_of, word_of, keyword_of, items_of}
 
 -- these bytes are there, and are those
 abbrev pub is_that : List ℕ → Option (List ℕ) → Bool
@@ -52,21 +52,7 @@ abbrev pub asserted : List Expression → Option Command
 asserted (t ∷ []) = asserted_by t (items_of t)
 asserted es = None
 
--- `not x`
-abbrev pub negated_by : Expression → List Expression → Option Literal
-negated_by whole (word ∷ (x ∷ [])) =
-    if is_that (codes "not") (word_of word) then option_map (λ name. record { expr = whole; name = name; negated = true }) (name_of x) else None
-negated_by whole es = None
-
--- `x`, or `(not x)`
-abbrev pub literal_by : Expression → Option (List ℕ) → Option Literal
-literal_by e (Some name) = Some (record { expr = e; name = name; negated = false })
-literal_by e None = option_and_then (negated_by e) (items_of e)
-
-abbrev pub literal : Expression → Option Literal
-literal e = literal_by e (name_of e)
-
--- `(l ..)`
+-- `(t ..)`
 abbrev pub assumed : List Expression → Option Command
-assumed (ls ∷ []) = option_and_then (λ es. option_map check_sat_assuming (each literal es)) (items_of ls)
+assumed (ts ∷ []) = option_map check_sat_assuming (items_of ts)
 assumed es = None

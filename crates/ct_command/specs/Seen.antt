@@ -5,14 +5,13 @@ use Rattle.std.specs.Global.{Vec}
 use Rattle.ct_sexpr.specs.declared.sexpr.Sexpr.{Sexpr}
 use Rattle.ct_sexpr.specs.Expression.{Expression}
 use Rattle.ct_sexpr.specs.View.{expression_of}
-use Rattle.ct_command.specs.declared.command.Literal.{Literal as ReadLiteral}
 use Rattle.ct_command.specs.declared.command.Named.{Named as ReadNamed}
 use Rattle.ct_command.specs.declared.command.SortHead.{SortHead as ReadHead}
 use Rattle.ct_command.specs.declared.command.Constructor.{Constructor as ReadConstructor}
 use Rattle.ct_command.specs.declared.command.Body.{Body as ReadBody}
 use Rattle.ct_command.specs.declared.command.Command.{Command as ReadCommand}
 use Rattle.ct_command.specs.declared.command.Command.TheVariants as command
-use Rattle.ct_command.specs.Command.{Literal, Named, SortHead, Constructor, Body, Command, set_logic, set_option, set_diagnostic_output, get_option, set_info, get_info, declare_sort, define_sort, declare_block, declare_fun, define_fun, assert, check_sat, check_sat_assuming, push, pop, reset_assertions, reset, get_model, get_value, get_proof, get_unsat_core, get_unsat_assumptions, echo, exit, unsupported}
+use Rattle.ct_command.specs.Command.{Named, SortHead, Constructor, Body, Command, set_logic, set_option, set_diagnostic_output, get_option, set_info, get_info, declare_sort, define_sort, declare_block, declare_fun, define_fun, assert, check_sat, check_sat_assuming, push, pop, reset_assertions, reset, get_model, get_value, get_proof, get_unsat_core, get_unsat_assumptions, echo, exit, unsupported}
 
 -- the bytes, where there are any
 abbrev pub bytes_seen : Option (Bor (List ℕ)) → Option (List ℕ)
@@ -25,9 +24,6 @@ all_seen es = map expression_of es
 -- the items, where there are any
 abbrev pub items_seen : Option (Bor (List Sexpr)) → Option (List Expression)
 items_seen o = option_map (λ (es : Bor (List Sexpr)). all_seen es.now) o
-
-abbrev pub literal_seen : ReadLiteral → Literal
-literal_seen l = record { expr = expression_of l.expr.now; name = l.name.now; negated = l.negated }
 
 abbrev pub named_seen : ReadNamed → Named
 named_seen n = record { name = n.name.now; sort = expression_of n.sort.now }
@@ -49,9 +45,6 @@ abbrev pub body_seen : ReadBody → Body
 body_seen b = record { params = names_seen b.params; ctors = map constructor_seen b.ctors.items }
 
 -- lists of these
-abbrev pub literals_seen : Vec ReadLiteral → List Literal
-literals_seen ls = map literal_seen ls.items
-
 abbrev pub nameds_seen : Vec ReadNamed → List Named
 nameds_seen ns = map named_seen ns.items
 
@@ -78,7 +71,7 @@ command_seen (command.DeclareFun name args sort) = declare_fun name.now (all_see
 command_seen (command.DefineFun name params sort t) = define_fun name.now (nameds_seen params) (expression_of sort.now) (expression_of t.now)
 command_seen (command.Assert t label) = assert (expression_of t.now) (bytes_seen label)
 command_seen command.CheckSat = check_sat
-command_seen (command.CheckSatAssuming ls) = check_sat_assuming (literals_seen ls)
+command_seen (command.CheckSatAssuming ts) = check_sat_assuming (all_seen ts.now)
 command_seen (command.Push n) = push n
 command_seen (command.Pop n) = pop n
 command_seen command.ResetAssertions = reset_assertions

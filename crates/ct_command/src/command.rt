@@ -12,17 +12,6 @@ pub enum Family {
     Codata,
 }
 
-/// An assumption: a name or its negation (SMT-LIB 2.7, section 3.9, `prop_literal`).
-#[derive(Clone, Copy, Debug)]
-pub struct Literal<'a> {
-    /// The whole expression.
-    pub expr: &'a Sexpr,
-    /// The name.
-    pub name: &'a [u8],
-    /// Whether it is negated.
-    pub negated: bool,
-}
-
 /// A name and the sort beside it: a field of a constructor, or a parameter of a definition.
 #[derive(Clone, Copy, Debug)]
 pub struct Named<'a> {
@@ -88,8 +77,8 @@ pub enum Command<'a> {
     Assert(&'a Sexpr, Option<&'a [u8]>),
     /// `check-sat`.
     CheckSat,
-    /// `check-sat-assuming`, with the assumptions in order.
-    CheckSatAssuming(Vec<Literal<'a>>),
+    /// `check-sat-assuming`, with the terms that are assumed, in order.
+    CheckSatAssuming(&'a [Sexpr]),
     /// `push`, with how many levels are added; 1 where no number is written.
     Push(u128),
     /// `pop`, with how many levels are removed; 1 where no number is written.

@@ -2,16 +2,14 @@
 ghost use Rattle.std.specs.Prelude.{◌≡◌, false, option_map};
 ghost use Rattle.std.specs.List.{list_any};
 ghost use Rattle.ct_sexpr.specs.View.{expression_of};
-ghost use Rattle.ct_command.specs.Items.{each};
-ghost use Rattle.ct_command.specs.Labels.{is_that, is_named, label_after, label_in, are_attributes, labelled, annotated, asserted_by, asserted, negated_by, literal, assumed};
+ghost use Rattle.ct_command.specs.Labels.{is_that, is_named, label_after, label_in, are_attributes, labelled, annotated, asserted_by, asserted, assumed};
 ghost use Rattle.ct_command.specs.Reading.{Reads};
-ghost use Rattle.ct_command.specs.Seen.{bytes_seen, all_seen, items_seen, literal_seen, literals_seen, command_seen};
+ghost use Rattle.ct_command.specs.Seen.{bytes_seen, all_seen, items_seen, command_seen};
 
-use crate::command::{Command, Literal};
+use crate::command::Command;
 use crate::error::{CommandError, WRONG_FORM};
 use crate::items::{items_of, keyword_of, name_of, word_of};
 use ct_sexpr::Sexpr;
-use std::alloc::Global;
 
 /// An assertion: `t`, which has a label where its outermost form is `(! t .. :named n ..)`.
 pub(crate) fn asserted(args: &[Sexpr]) -> Result<Command<'_>, CommandError>
@@ -156,70 +154,16 @@ fn are_attributes(exprs: &[Sexpr]) -> bool
     true
 }
 
-/// Assumptions: `(l ..)`.
-pub(crate) fn assumed(alloc: Global, args: &[Sexpr]) -> Result<Command<'_>, CommandError>
+/// Assumptions: `(t ..)`.
+pub(crate) fn assumed(args: &[Sexpr]) -> Result<Command<'_>, CommandError>
     ensures value { Reads command_seen (assumed (all_seen args.now)) result }
 {
     match args {
-        [literals] => match items_of(literals) {
-            Some(items) => {
-                let literals = all_literals(alloc, items)?;
-                Ok(Command::CheckSatAssuming(literals))
-            }
+        [terms] => match items_of(terms) {
+            Some(terms) => Ok(Command::CheckSatAssuming(terms)),
             None => Err(CommandError::Refused(WRONG_FORM)),
         },
         [] => Err(CommandError::Refused(WRONG_FORM)),
         [_, _, ..] => Err(CommandError::Refused(WRONG_FORM)),
-    }
-}
-
-// Literals, one after the other.
-fn all_literals(alloc: Global, exprs: &[Sexpr]) -> Result<Vec<Literal<'_>>, CommandError>
-    ensures value { Reads literals_seen (each literal (all_seen exprs.now)) result }
-{
-    let mut left = exprs;
-    let mut read = Vec::with_capacity(alloc, exprs.len())?;
-    while let [first, others @ ..] = left {
-        match literal(first) {
-            Some(one) => read.push(one)?,
-            None => return Err(CommandError::Refused(WRONG_FORM)),
-        }
-        left = others;
-    }
-    Ok(read)
-}
-
-// `x`, or `(not x)`.
-fn literal(expr: &Sexpr) -> Option<Literal<'_>>
-    ensures value { literal (expression_of expr.now) ≡ option_map literal_seen result }
-{
-    match name_of(expr) {
-        Some(name) => Some(Literal {
-            expr,
-            name,
-            negated: false,
-        }),
-        None => negated_by(expr, items_of(expr)?),
-    }
-}
-
-// `not x`.
-fn negated_by<'a>(whole: &'a Sexpr, items: &'a [Sexpr]) -> Option<Literal<'a>>
-    ensures value { negated_by (expression_of whole.now) (all_seen items.now) ≡ option_map literal_seen result }
-{
-    match items {
-        [] | [_] => None,
-        [word, term] => {
-            if !is_that(word_of(word), b"not") {
-                return None;
-            }
-            let name = name_of(term)?;
-            Some(Literal {
-                expr: whole,
-                name,
-                negated: true,
-            })
-        }
-        [_, _, _, ..] => None,
     }
 }

@@ -24,7 +24,7 @@ mod settings;
 mod theorems;
 mod words;
 
-pub use command::{Body, Command, Constructor, Family, Literal, Named, SortHead};
+pub use command::{Body, Command, Constructor, Family, Named, SortHead};
 pub use error::CommandError;
 pub use items::name_of;
 pub use option::{BooleanOption, Channel, ErrorBehavior, Info, NumeralOption, OptionName, Setting};

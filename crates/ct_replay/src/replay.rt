@@ -4,11 +4,11 @@ ghost use Rattle.ct_sexpr.specs.Text.{Located, Ending, Reads};
 ghost use Rattle.ct_sexpr.specs.View.{expression_of};
 ghost use Rattle.ct_step.specs.Evidence.{no_evidence};
 ghost use Rattle.ct_step.specs.State.{State};
-ghost use Rattle.ct_replay.specs.Found.{Finds, is_wanted, state_where};
+ghost use Rattle.ct_replay.specs.Found.{Finds, FindsFrom, is_wanted, state_where};
 ghost use Rattle.ct_replay.specs.Turn.{FindsAfter};
 
 use crate::error::ReplayError;
-use ct_script::{Replayed, Session};
+use ct_script::{Replayed, Session, Standing};
 use ct_sexpr::{Next, ReadError, Reader, Sexpr, one_text};
 
 /// How the search for a check stands after a command.
@@ -17,8 +17,8 @@ pub(crate) enum Turn {
     Found,
     /// The script ends with the command.
     Over,
-    /// The search goes on.
-    On,
+    /// The search goes on, and a verdict of such a check stands.
+    On(Standing),
 }
 
 /// Replays a script up to its check with this number. Whether there is one.
@@ -33,14 +33,15 @@ pub fn find_check(
         × Finds session.old commands wanted (state_where found session.new.state)) }
 {
     one_text();
+    let mut standing = Standing::Nothing;
     loop {
         match reader.next() {
             Ok(Next::Command { expr, line }) => {
-                let turn = replay(session, line, &expr, wanted)?;
+                let turn = replay(session, standing, line, &expr, wanted)?;
                 match turn {
                     Turn::Found => return Ok(true),
                     Turn::Over => return Ok(false),
-                    Turn::On => {}
+                    Turn::On(now) => standing = now,
                 }
             }
             Ok(Next::Need) => unreachable!(),
@@ -51,21 +52,27 @@ pub fn find_check(
     }
 }
 
-// Replays a command that begins on this line.
-fn replay(session: &mut Session, line: u64, expr: &Sexpr, wanted: u64) -> Result<Turn, ReplayError>
+// Replays a command that begins on this line, where a verdict of such a check stands.
+fn replay(
+    session: &mut Session,
+    standing: Standing,
+    line: u64,
+    expr: &Sexpr,
+    wanted: u64,
+) -> Result<Turn, ReplayError>
     requires unanswered { session.old.evidence ≡ no_evidence }
     ensures unanswered { session.new.evidence ≡ no_evidence }
     ensures turned { IfOk result (λ turn. (commands : List Located) (found : Option State) → FindsAfter turn session.new commands wanted found
-        → Finds session.old (record { command = expression_of expr.now; line = line } ∷ commands) wanted found) }
+        → FindsFrom session.old standing (record { command = expression_of expr.now; line = line } ∷ commands) wanted found) }
 {
-    let replayed = session.replay(line, expr)?;
+    let replayed = session.replay(line, expr, standing)?;
     if is_wanted(replayed, session.checks(), wanted) {
         return Ok(Turn::Found);
     }
     if replayed.stop {
         return Ok(Turn::Over);
     }
-    Ok(Turn::On)
+    Ok(Turn::On(replayed.standing))
 }
 
 // Whether the command, after which there were so many checks, is the check with the wanted number.

@@ -1,18 +1,19 @@
 -- What a command makes of the stack and the options is fixed by the stack and the options alone, and not by what was answered; so a
 -- replay changes them as the commands do.
-use Rattle.std.proofs.Common.{◌≡◌, ◌∙◌, ℕ, Bool, true, false, true≢false, ◌⊎◌, ◌||◌, List, [], ◌∷◌, ◌++◌, Option, None, Ok, Err, append_assoc, refl, sym, ap, subst, inl, inr}
+use Rattle.std.proofs.Common.{◌≡◌, ◌∙◌, ℕ, Bool, true, false, true≢false, ◌⊎◌, ◌||◌, List, [], ◌∷◌, ◌++◌, Option, None, Some, Ok, Err, append_assoc, refl, sym, ap, subst, inl, inr}
 use Rattle.std.specs.Bool.{MatchBool}
+use Rattle.std.proofs.lemmas.Option.{none-some, same_Some}
 use Rattle.ct_formulas.specs.Formula.{Formula}
 use Rattle.ct_names.specs.Outcome.{Outcome, Elaborated}
 use Rattle.ct_sorts.specs.Declarations.{Declarations, with_function}
 use Rattle.ct_model.specs.ModelText.{IsModelText}
 use Rattle.ct_log_text.specs.Written.{expression_of_record, text_of}
+use Rattle.ct_sexpr.specs.Expression.{Expression}
 use Rattle.ct_sexpr.specs.Text.{Located, Ending}
 use Rattle.ct_command.specs.Command.{Command, define_sort, declare_block, declare_fun, define_fun, assert, check_sat, check_sat_assuming, get_model, get_value, get_proof, get_unsat_core, get_unsat_assumptions}
 use Rattle.ct_command.specs.Reading.{Read, command}
 use Rattle.ct_step.specs.Evidence.{Evidence, no_evidence, followed_by}
 use Rattle.ct_step.proofs.EvidenceLemmas.{nothing_earlier, followed_assoc}
-use Rattle.ct_engine.specs.declared.verdict.Verdict.{Verdict}
 use Rattle.ct_stack.specs.Stack.{Stack, declaring, in_context, asserting_as, defined_in}
 use Rattle.ct_stack.specs.Assuming.{assumptions}
 use Rattle.ct_stack.specs.Outcomes.{Gives, GivesNeeding}
@@ -22,15 +23,15 @@ use Rattle.ct_stack.specs.Theorems.{AddSame}
 use Rattle.ct_stack.specs.Values.{AreValues}
 use Rattle.ct_step.specs.declared.options.Options.{Options}
 use Rattle.ct_script.specs.declared.replay.Replayed.{Replayed}
+use Rattle.ct_script.specs.declared.replay.Standing.{Standing}
 use Rattle.ct_step.specs.declared.cores.Members.TheVariants as members
-use Rattle.ct_step.specs.Options.{budget}
-use Rattle.ct_step.specs.Verdict.{ComesTo as ComesToVerdict}
-use Rattle.ct_step.specs.State.{State, Kept, declared, context_of, changed, asserted, model_kept, derivation_kept, refuted_kept, assuming_kept, asked}
+use Rattle.ct_step.specs.State.{State, Kept, declared, with_declarations, context_of, changed, asserted, model_kept, derivation_kept, refuted_kept, assuming_kept}
 use Rattle.ct_step.specs.Refusal.{IsRefusal}
-use Rattle.ct_step.specs.Step.{CommandEffect, Does, Steps, PrintsCore, said, quiet, decided, Step, counted, counted_by, one_more}
+use Rattle.ct_step.specs.Rehearsal.{CanAssume, Rehearses, RehearsesAs, RehearsesAssuming, assumed_terms}
+use Rattle.ct_step.specs.Step.{CommandEffect, Does, DecidesAssuming, IsRefused, Steps, PrintsCore, said, quiet, Step, counted, counted_by, one_more}
 use Rattle.ct_script.specs.Answers.{Answers, Leads, IsSilent, IsFollowed, errors_of, lines_of}
 use Rattle.ct_script.specs.Session.{Course}
-use Rattle.ct_script.specs.Replay.{is_check, awaits_verdict, is_undecided, IsCounted, IsPassedOver, IsStepped, Replays, GoesThrough, HaveOneStack, AnswersThrough, EndsUndecided}
+use Rattle.ct_script.specs.Replay.{is_check, awaits_verdict, hangs, is_undecided, IsCounted, IsPassedOver, IsStepped, Replays, GoesThrough, HaveOneStack, AnswersThrough, EndsUndecided}
 use Rattle.ct_stack.proofs.BlockLemmas.{one_types}
 use Rattle.ct_stack.proofs.NeededLemmas.{one_value}
 use Rattle.ct_step.proofs.SoundLemmas.{only, only_of, prints}
@@ -52,13 +53,12 @@ alike {a = a} {b = b} e f is same stack options stop =
 rests : {a : CommandEffect} (s : State) (e : CommandEffect) → e ≡ a → a.state.stack ≡ s.stack → a.state.options ≡ s.options → Rests s e
 rests s e is stack options = subst (Rests s) (sym is) (record { stack = stack; options = options })
 
--- the command only asks for something, or is a check
+-- the command only asks for something, or is a check without assumptions
 abbrev pub asks : Command → Bool
 asks check_sat = true
 asks get_model = true
 asks (get_value ts) = true
 asks get_proof = true
-asks (check_sat_assuming ls) = true
 asks get_unsat_core = true
 asks get_unsat_assumptions = true
 asks c = false
@@ -69,7 +69,6 @@ done_rests s number check_sat e asking is = rests s e is.2 refl refl
 done_rests s number get_model e asking is = only_of (model_kept s.kept) (λ i. (text : List ℕ) × IsModelText (declared s) i text × (e ≡ said s text)) (Rests s e) (λ i h. rests s e h.2 refl refl) is
 done_rests s number (get_value ts) e asking is = only_of (model_kept s.kept) (λ i. (text : List ℕ) × AreValues (context_of s) i ts text × (e ≡ said s text)) (Rests s e) (λ i h. rests s e h.2 refl refl) is
 done_rests s number get_proof e asking is = only_of (derivation_kept s.kept) (λ p. e ≡ said s (text_of (expression_of_record (declared s) p.0 p.1.rec))) (Rests s e) (λ p h. rests s e h refl refl) is
-done_rests s number (check_sat_assuming ls) e asking is = only (assumptions (declared s) ls) (λ assumed. (v : Verdict) × ComesToVerdict (context_of s) (asked s assumed) (budget s.options) v × (e ≡ decided s None assumed v)) (Rests s e) (λ assumed h. rests s e h.2 refl refl) is
 done_rests s number get_unsat_core e asking is = only_of (refuted_kept s.kept) (λ refuted. PrintsCore s members.Names refuted e) (Rests s e) (λ refuted h. prints s members.Names refuted e (Rests s e) (λ text kept printed. rests s e printed refl refl) h) is
 done_rests s number get_unsat_assumptions e asking is = only_of (assuming_kept s.kept) (λ refuted. PrintsCore s members.Assumptions refuted e) (Rests s e) (λ refuted h. prints s members.Assumptions refuted e (Rests s e) (λ text kept printed. rests s e printed refl refl) h) is
 done_rests s number c e asking is = absurd (true≢false (sym asking))
@@ -90,7 +89,6 @@ module _ (s : State) (labels : List (Option (List ℕ))) (channel : List ℕ) (k
   refused_too get_model n other h = absurd (true≢false other)
   refused_too (get_value ts) n other h = absurd (true≢false other)
   refused_too get_proof n other h = absurd (true≢false other)
-  refused_too (check_sat_assuming ls) n other h = absurd (true≢false other)
   refused_too get_unsat_core n other h = absurd (true≢false other)
   refused_too get_unsat_assumptions n other h = absurd (true≢false other)
   refused_too c n other h = h
@@ -113,6 +111,21 @@ module _ (s : State) (labels : List (Option (List ℕ))) (channel : List ℕ) (k
       alike e f is same
       (ap (λ (n : Declarations). asserting_as (declaring s.stack n) label y) one.0 ∙ ap (λ (z : Formula). asserting_as (declaring s.stack later) label z) one.1) refl refl
 
+  -- one that is checked with assumptions
+  assumed_alike : AddSame → (ts : List Expression) (e f : CommandEffect) → GivesNeeding (λ d. assumptions d ts) (declared s) (λ later x. DecidesAssuming (with_declarations s later) x e) → GivesNeeding (λ d. assumptions d ts) (declared s) (λ later x. DecidesAssuming (with_declarations (beside s labels channel kept) later) x f) → AreAlike e f
+  assumed_alike add_same ts e f (later, x, comes, (v, right, is)) (last, y, also, (w, right_too, same)) =
+      alike e f is same (ap (λ (n : Declarations). declaring s.stack n) (one_value add_same (λ d. assumptions d ts) (declared s) later last x y comes also).0) refl refl
+
+  -- or gone through without a verdict
+  rehearsed_alike : AddSame → (ts : List Expression) (line : ℕ) (e f : CommandEffect) → IsRefused s line (check_sat_assuming ts) e ⊎ (CanAssume s ts × GivesNeeding (λ d. assumptions d ts) (declared s) (λ later x. DecidesAssuming (with_declarations s later) x e)) → RehearsesAssuming (beside s labels channel kept) line ts f → AreAlike e f
+  rehearsed_alike add_same ts line e f (inl h) (inl k) = alike e f h.2 k.2 refl refl refl
+  rehearsed_alike add_same ts line e f (inl h) (inr k) = absurd (k.0 h.0 h.1)
+  rehearsed_alike add_same ts line e f (inr h) (inl k) = absurd (h.0 k.0 k.1)
+  rehearsed_alike add_same ts line e f (inr (accepted, (later, x, comes, (v, right, is)))) (inr (accepted_too, (state, (last, y, also, same), quietly))) =
+      alike e f is quietly
+      (ap (λ (t : State). t.stack) same ∙ ap (λ (n : Declarations). declaring s.stack n) (one_value add_same (λ d. assumptions d ts) (declared s) later last x y comes also).0)
+      (ap (λ (t : State). t.options) same) refl
+
   -- and does the same
   done_alike : AddSame → (number count : ℕ) (c : Command) (e f : CommandEffect) → asks c ≡ false → Does s number c e → Does (beside s labels channel kept) count c f → AreAlike e f
   done_alike add_same number count (define_sort name params body) e f other is same = formed (synonym_body (declared s) params body) (λ x. declaring s.stack (with_synonym_of (declared s) name params x)) e f is same
@@ -124,7 +137,7 @@ module _ (s : State) (labels : List (Option (List ℕ))) (channel : List ℕ) (k
   done_alike add_same number count get_model e f other is same = absurd (true≢false other)
   done_alike add_same number count (get_value ts) e f other is same = absurd (true≢false other)
   done_alike add_same number count get_proof e f other is same = absurd (true≢false other)
-  done_alike add_same number count (check_sat_assuming ls) e f other is same = absurd (true≢false other)
+  done_alike add_same number count (check_sat_assuming ts) e f other is same = assumed_alike add_same ts e f is same
   done_alike add_same number count get_unsat_core e f other is same = absurd (true≢false other)
   done_alike add_same number count get_unsat_assumptions e f other is same = absurd (true≢false other)
   done_alike add_same number count c e f other is same = alike e f is same refl refl refl
@@ -156,7 +169,6 @@ asks_undecided check_sat = refl
 asks_undecided get_model = refl
 asks_undecided (get_value ts) = refl
 asks_undecided get_proof = refl
-asks_undecided (check_sat_assuming ls) = refl
 asks_undecided get_unsat_core = refl
 asks_undecided get_unsat_assumptions = refl
 asks_undecided c = refl
@@ -200,7 +212,6 @@ awaiting_asks : (c : Command) → awaits_verdict (Ok c) ≡ true → asks c ≡ 
 awaiting_asks get_model awaits = refl
 awaiting_asks (get_value ts) awaits = refl
 awaiting_asks get_proof awaits = refl
-awaiting_asks (check_sat_assuming ls) awaits = refl
 awaiting_asks get_unsat_core awaits = refl
 awaiting_asks get_unsat_assumptions awaits = refl
 awaiting_asks c awaits = absurd (true≢false (sym awaits))
@@ -208,6 +219,16 @@ awaiting_asks c awaits = absurd (true≢false (sym awaits))
 awaiting_rests : (s : State) (number line : ℕ) (read : Read) (e : CommandEffect) → awaits_verdict read ≡ true → Steps s number line read e → HaveOneStack s e.state
 awaiting_rests s number line (Err n) e awaits h = absurd (true≢false (sym awaits))
 awaiting_rests s number line (Ok c) e awaits h = asking_rests s number line c e (awaiting_asks c awaits) h
+
+-- and what hangs on one awaits it
+hanging_awaits : (standing : Standing) (read : Read) → hangs standing read ≡ true → awaits_verdict read ≡ true
+hanging_awaits standing (Ok get_model) hanging = refl
+hanging_awaits standing (Ok (get_value ts)) hanging = refl
+hanging_awaits standing (Ok get_proof) hanging = refl
+hanging_awaits standing (Ok get_unsat_core) hanging = refl
+hanging_awaits standing (Ok get_unsat_assumptions) hanging = refl
+hanging_awaits standing (Ok c) hanging = absurd (true≢false (sym hanging))
+hanging_awaits standing (Err n) hanging = absurd (true≢false (sym hanging))
 
 -- neither is decided
 check_undecided : (read : Read) → is_check read ≡ true → is_undecided read ≡ true
@@ -220,8 +241,27 @@ or_true false = refl
 awaiting_undecided : (read : Read) → awaits_verdict read ≡ true → is_undecided read ≡ true
 awaiting_undecided read awaits = ap (λ (b : Bool). is_check read || b) awaits ∙ or_true (is_check read)
 
+-- what was read is a check with assumptions, by what it assumes
+assumed_is : (read : Read) (ts : List Expression) → assumed_terms read ≡ Some ts → read ≡ Ok (check_sat_assuming ts)
+assumed_is (Ok (check_sat_assuming us)) ts is = ap (λ (xs : List Expression). Ok (check_sat_assuming xs)) (same_Some us ts is)
+assumed_is (Ok c) ts is = absurd (none-some ts is)
+assumed_is (Err n) ts is = absurd (none-some ts is)
+
+-- what is gone through without a verdict leaves one stack with its step, and ends the script with it
+module _ (add_same : AddSame) (s t : State) (number count line : ℕ) (read : Read) (e f : CommandEffect) (one : HaveOneStack s t) (h : Steps s number line read e) where
+  rehearsed_as : (terms : Option (List Expression)) → assumed_terms read ≡ terms → RehearsesAs terms t count line read f → HaveOneStack e.state f.state × (is_undecided read ≡ false → f.stop ≡ e.stop)
+  rehearsed_as None is k = (steps_one add_same s t number count line read e f one h k, λ decided. steps_stop add_same s t number count line read e f one h k decided)
+  rehearsed_as (Some ts) is k =
+      let own : Steps s number line (Ok (check_sat_assuming ts)) e = subst (λ (r : Read). Steps s number line r e) (assumed_is read ts is) h in
+      let besides = subst (λ (x : State). RehearsesAssuming x line ts f) (sym (same_beside s t one)) k in
+      let both = rehearsed_alike s t.labels t.diagnostic_output t.kept add_same ts line e f own besides in
+      (both.0, λ decided. both.1)
+
+  pub rehearsed_one : Rehearses t count line read f → HaveOneStack e.state f.state × (is_undecided read ≡ false → f.stop ≡ e.stop)
+  rehearsed_one k = rehearsed_as (assumed_terms read) refl k
+
 -- what is read is replayed beside its step
-module _ (add_same : AddSame) (s : State) (number : ℕ) (old new : Course) (line : ℕ) (read : Read) (e : CommandEffect) (r : Replayed) (one : HaveOneStack s old.state) (steps : Steps s number line read e) where
+module _ (add_same : AddSame) (s : State) (number : ℕ) (old new : Course) (standing : Standing) (line : ℕ) (read : Read) (e : CommandEffect) (r : Replayed) (one : HaveOneStack s old.state) (steps : Steps s number line read e) where
   -- one stack, and one end where no verdict matters
   abbrev IsAlike : Type 0
   IsAlike = HaveOneStack e.state new.state × (is_undecided read ≡ false → r.stop ≡ e.stop)
@@ -236,18 +276,21 @@ module _ (add_same : AddSame) (s : State) (number : ℕ) (old new : Course) (lin
     λ decided. absurd (true≢false (sym undecided ∙ decided)),
   )
 
-  replayed_otherwise : (awaits : Bool) → awaits_verdict read ≡ awaits → MatchBool awaits (IsPassedOver old new r) (IsStepped old line read new r) → IsAlike
-  replayed_otherwise true awaits (is, checked, stop) = left_alone (awaiting_rests s number line read e awaits steps) (ap (λ (c : Course). c.state) is) (awaiting_undecided read awaits)
-  replayed_otherwise false awaits (f, stepped, is, checked, stop) = (
-    subst (λ (x : State). HaveOneStack e.state x) (sym (ap (λ (c : Course). c.state) is)) (steps_one add_same s old.state number old.number line read e f one steps stepped),
-    λ decided. stop ∙ steps_stop add_same s old.state number old.number line read e f one steps stepped decided,
-  )
+  replayed_otherwise : (hanging : Bool) → hangs standing read ≡ hanging → MatchBool hanging (IsPassedOver old standing new r) (IsStepped old standing line read new r) → IsAlike
+  replayed_otherwise true hanging (is, checked, stop, stands) =
+      let awaits = hanging_awaits standing read hanging in
+      left_alone (awaiting_rests s number line read e awaits steps) (ap (λ (c : Course). c.state) is) (awaiting_undecided read awaits)
+  replayed_otherwise false hanging (f, stepped, is, checked, stop, stands) =
+      let both = rehearsed_one add_same s old.state number old.number line read e f one steps stepped in (
+        subst (λ (x : State). HaveOneStack e.state x) (sym (ap (λ (c : Course). c.state) is)) both.0,
+        λ decided. stop ∙ both.1 decided,
+      )
 
-  replayed_by : (check : Bool) → is_check read ≡ check → MatchBool check (IsCounted old new r) (MatchBool (awaits_verdict read) (IsPassedOver old new r) (IsStepped old line read new r)) → IsAlike
-  replayed_by true check (is, checked, stop) = left_alone (check_rests s number line read e check steps) (ap (λ (c : Course). c.state) is) (check_undecided read check)
-  replayed_by false check h = replayed_otherwise (awaits_verdict read) refl h
+  replayed_by : (check : Bool) → is_check read ≡ check → MatchBool check (IsCounted old new r) (MatchBool (hangs standing read) (IsPassedOver old standing new r) (IsStepped old standing line read new r)) → IsAlike
+  replayed_by true check (is, checked, stop, stands) = left_alone (check_rests s number line read e check steps) (ap (λ (c : Course). c.state) is) (check_undecided read check)
+  replayed_by false check h = replayed_otherwise (hangs standing read) refl h
 
-  pub replayed_alike : Replays old line read new r → IsAlike
+  pub replayed_alike : Replays old standing line read new r → IsAlike
   replayed_alike h = replayed_by (is_check read) refl h
 
 -- a command that is no check is not counted
@@ -263,44 +306,44 @@ check_counted number (Ok check_sat) check = refl
 check_counted number (Ok c) check = absurd (true≢false (sym check))
 
 -- so the checks are counted
-counted_otherwise : (old new : Course) (line : ℕ) (read : Read) (r : Replayed) (assuming : Bool) → is_check read ≡ false → MatchBool assuming (IsPassedOver old new r) (IsStepped old line read new r) → new.number ≡ counted_by old.number read
-counted_otherwise old new line read r true other (is, checked, stop) = ap (λ (c : Course). c.number) is ∙ sym (uncounted old.number read other)
-counted_otherwise old new line read r false other (f, stepped, is, checked, stop) = ap (λ (c : Course). c.number) is ∙ sym (uncounted old.number read other)
+counted_otherwise : (old new : Course) (standing : Standing) (line : ℕ) (read : Read) (r : Replayed) (hanging : Bool) → is_check read ≡ false → MatchBool hanging (IsPassedOver old standing new r) (IsStepped old standing line read new r) → new.number ≡ counted_by old.number read
+counted_otherwise old new standing line read r true other (is, checked, stop, stands) = ap (λ (c : Course). c.number) is ∙ sym (uncounted old.number read other)
+counted_otherwise old new standing line read r false other (f, stepped, is, checked, stop, stands) = ap (λ (c : Course). c.number) is ∙ sym (uncounted old.number read other)
 
-counted_with_check : (old new : Course) (line : ℕ) (read : Read) (r : Replayed) (check : Bool) → is_check read ≡ check → MatchBool check (IsCounted old new r) (MatchBool (awaits_verdict read) (IsPassedOver old new r) (IsStepped old line read new r)) → new.number ≡ counted_by old.number read
-counted_with_check old new line read r true check (is, checked, stop) = ap (λ (c : Course). c.number) is ∙ sym (check_counted old.number read check)
-counted_with_check old new line read r false check h = counted_otherwise old new line read r (awaits_verdict read) check h
+counted_with_check : (old new : Course) (standing : Standing) (line : ℕ) (read : Read) (r : Replayed) (check : Bool) → is_check read ≡ check → MatchBool check (IsCounted old new r) (MatchBool (hangs standing read) (IsPassedOver old standing new r) (IsStepped old standing line read new r)) → new.number ≡ counted_by old.number read
+counted_with_check old new standing line read r true check (is, checked, stop, stands) = ap (λ (c : Course). c.number) is ∙ sym (check_counted old.number read check)
+counted_with_check old new standing line read r false check h = counted_otherwise old new standing line read r (hangs standing read) check h
 
-pub replayed_counted : (old new : Course) (line : ℕ) (read : Read) (r : Replayed) → Replays old line read new r → new.number ≡ counted_by old.number read
-replayed_counted old new line read r h = counted_with_check old new line read r (is_check read) refl h
+pub replayed_counted : (old new : Course) (standing : Standing) (line : ℕ) (read : Read) (r : Replayed) → Replays old standing line read new r → new.number ≡ counted_by old.number read
+replayed_counted old new standing line read r h = counted_with_check old new standing line read r (is_check read) refl h
 
 -- what is told of a check
-told_otherwise : (old new : Course) (line : ℕ) (read : Read) (r : Replayed) (assuming : Bool) → MatchBool assuming (IsPassedOver old new r) (IsStepped old line read new r) → r.check ≡ false
-told_otherwise old new line read r true (is, checked, stop) = checked
-told_otherwise old new line read r false (f, stepped, is, checked, stop) = checked
+told_otherwise : (old new : Course) (standing : Standing) (line : ℕ) (read : Read) (r : Replayed) (hanging : Bool) → MatchBool hanging (IsPassedOver old standing new r) (IsStepped old standing line read new r) → r.check ≡ false
+told_otherwise old new standing line read r true (is, checked, stop, stands) = checked
+told_otherwise old new standing line read r false (f, stepped, is, checked, stop, stands) = checked
 
-told_by : (old new : Course) (line : ℕ) (read : Read) (r : Replayed) (check : Bool) → is_check read ≡ check → MatchBool check (IsCounted old new r) (MatchBool (awaits_verdict read) (IsPassedOver old new r) (IsStepped old line read new r)) → r.check ≡ is_check read
-told_by old new line read r true check (is, checked, stop) = checked ∙ sym check
-told_by old new line read r false check h = told_otherwise old new line read r (awaits_verdict read) h ∙ sym check
+told_by : (old new : Course) (standing : Standing) (line : ℕ) (read : Read) (r : Replayed) (check : Bool) → is_check read ≡ check → MatchBool check (IsCounted old new r) (MatchBool (hangs standing read) (IsPassedOver old standing new r) (IsStepped old standing line read new r)) → r.check ≡ is_check read
+told_by old new standing line read r true check (is, checked, stop, stands) = checked ∙ sym check
+told_by old new standing line read r false check h = told_otherwise old new standing line read r (hangs standing read) h ∙ sym check
 
-pub replayed_told : (old new : Course) (line : ℕ) (read : Read) (r : Replayed) → Replays old line read new r → r.check ≡ is_check read
-replayed_told old new line read r h = told_by old new line read r (is_check read) refl h
+pub replayed_told : (old new : Course) (standing : Standing) (line : ℕ) (read : Read) (r : Replayed) → Replays old standing line read new r → r.check ≡ is_check read
+replayed_told old new standing line read r h = told_by old new standing line read r (is_check read) refl h
 
 -- commands that lead to a state
-pub leads_alike : AddSame → (s last : State) (number count : ℕ) (cs : List Located) (kept : Evidence) (errors : List (ℕ × ℕ)) (lines : List (List ℕ)) (old new : Course) → Leads s number cs last count kept errors lines → GoesThrough old cs new → HaveOneStack s old.state → HaveOneStack last new.state
-leads_alike add_same s last number count [] kept errors lines old new leads through one =
+pub leads_alike : AddSame → (s last : State) (number count : ℕ) (cs : List Located) (kept : Evidence) (errors : List (ℕ × ℕ)) (lines : List (List ℕ)) (old new : Course) (standing : Standing) → Leads s number cs last count kept errors lines → GoesThrough old standing cs new → HaveOneStack s old.state → HaveOneStack last new.state
+leads_alike add_same s last number count [] kept errors lines old new standing leads through one =
     subst (λ (x : State). HaveOneStack x new.state) (sym leads.0)
     (subst (λ (c : Course). HaveOneStack s c.state) (sym through) one)
-leads_alike add_same s last number count (c ∷ cs) kept errors lines old new (e, vs, es, ls, step, followed, goes_on, leads) (next, r, replays, on, through) one =
-    leads_alike add_same e.state last (counted_by number (command c.command)) count cs vs es ls next new leads through
-    (replayed_alike add_same s (counted_by number (command c.command)) old next c.line (command c.command) e r one step replays).0
+leads_alike add_same s last number count (c ∷ cs) kept errors lines old new standing (e, vs, es, ls, step, followed, goes_on, leads) (next, r, replays, on, through) one =
+    leads_alike add_same e.state last (counted_by number (command c.command)) count cs vs es ls next new r.standing leads through
+    (replayed_alike add_same s (counted_by number (command c.command)) old next standing c.line (command c.command) e r one step replays).0
 
 -- and the number of checks
-pub leads_counted : (s last : State) (number count : ℕ) (cs : List Located) (kept : Evidence) (errors : List (ℕ × ℕ)) (lines : List (List ℕ)) (old new : Course) → Leads s number cs last count kept errors lines → GoesThrough old cs new → old.number ≡ number → new.number ≡ count
-leads_counted s last number count [] kept errors lines old new leads through same = ap (λ (c : Course). c.number) through ∙ same ∙ sym leads.1
-leads_counted s last number count (c ∷ cs) kept errors lines old new (e, vs, es, ls, step, followed, goes_on, leads) (next, r, replays, on, through) same =
-    leads_counted e.state last (counted_by number (command c.command)) count cs vs es ls next new leads through
-    (replayed_counted old next c.line (command c.command) r replays ∙ ap (λ (n : ℕ). counted_by n (command c.command)) same)
+pub leads_counted : (s last : State) (number count : ℕ) (cs : List Located) (kept : Evidence) (errors : List (ℕ × ℕ)) (lines : List (List ℕ)) (old new : Course) (standing : Standing) → Leads s number cs last count kept errors lines → GoesThrough old standing cs new → old.number ≡ number → new.number ≡ count
+leads_counted s last number count [] kept errors lines old new standing leads through same = ap (λ (c : Course). c.number) through ∙ same ∙ sym leads.1
+leads_counted s last number count (c ∷ cs) kept errors lines old new standing (e, vs, es, ls, step, followed, goes_on, leads) (next, r, replays, on, through) same =
+    leads_counted e.state last (counted_by number (command c.command)) count cs vs es ls next new r.standing leads through
+    (replayed_counted old next standing c.line (command c.command) r replays ∙ ap (λ (n : ℕ). counted_by n (command c.command)) same)
 
 -- answers through the commands after one that does not end the script
 through_one : (s : State) (number : ℕ) (c : Located) (first others : List Located) (ending : Ending) (kept vs : Evidence) (errors es : List (ℕ × ℕ)) (lines ls : List (List ℕ)) (e : CommandEffect) (last : State) (count : ℕ) → Step s number c.line c.command e → IsFollowed c.line e kept vs errors es lines ls → e.stop ≡ false → AnswersThrough e.state (counted number c.command) first others ending vs es ls last count → AnswersThrough s number (c ∷ first) others ending kept errors lines last count
@@ -345,8 +388,8 @@ module _ (s : State) (number : ℕ) (c : Located) (first others : List Located) 
   by_end r on alike later true is rest false either = absurd (true≢false (sym is ∙ sym (alike either) ∙ on))
 
 -- answers begin with those to the commands that a replay goes through, or end at one of them
-pub answers_through : AddSame → (s : State) (number : ℕ) (first others : List Located) (ending : Ending) (kept : Evidence) (errors : List (ℕ × ℕ)) (lines : List (List ℕ)) (old new : Course) → Answers s number (first ++ others) ending kept errors lines → GoesThrough old first new → HaveOneStack s old.state → GoOrEnd s number first others ending kept errors lines
-answers_through add_same s number [] others ending kept errors lines old new answers through one = inl (
+pub answers_through : AddSame → (s : State) (number : ℕ) (first others : List Located) (ending : Ending) (kept : Evidence) (errors : List (ℕ × ℕ)) (lines : List (List ℕ)) (old new : Course) (standing : Standing) → Answers s number (first ++ others) ending kept errors lines → GoesThrough old standing first new → HaveOneStack s old.state → GoOrEnd s number first others ending kept errors lines
+answers_through add_same s number [] others ending kept errors lines old new standing answers through one = inl (
   s,
   number,
   record {
@@ -363,9 +406,9 @@ answers_through add_same s number [] others ending kept errors lines old new ans
     lines_are = refl;
   },
 )
-answers_through add_same s number (c ∷ first) others ending kept errors lines old new (e, vs, es, ls, step, followed, rest) (next, r, replays, on, through) one =
+answers_through add_same s number (c ∷ first) others ending kept errors lines old new standing (e, vs, es, ls, step, followed, rest) (next, r, replays, on, through) one =
     let count : ℕ = counted number c.command in
-    let same = replayed_alike add_same s count old next c.line (command c.command) e r one step replays in
+    let same = replayed_alike add_same s count old next standing c.line (command c.command) e r one step replays in
     by_end s number c first others ending kept vs errors es lines ls e step followed r on same.1
-    (λ more. answers_through add_same e.state count first others ending vs es ls next new more through same.0)
+    (λ more. answers_through add_same e.state count first others ending vs es ls next new r.standing more through same.0)
     e.stop refl rest (is_undecided (command c.command)) refl

@@ -17,13 +17,10 @@ use Rattle.ct_stack.specs.Refusal.{over}
 use Rattle.ct_stack.specs.Values.{AreValues}
 use Rattle.ct_step.specs.declared.answer.Answer.{Answer}
 use Rattle.ct_step.specs.declared.state.SessionState.{SessionState}
-use Rattle.ct_engine.specs.declared.verdict.Verdict.{Verdict}
 use Rattle.ct_step.specs.declared.cores.Members.TheVariants as members
-use Rattle.ct_step.specs.Options.{budget}
-use Rattle.ct_step.specs.Verdict.{ComesTo}
-use Rattle.ct_step.specs.State.{State, declared, context_of, changed, asserted, model_kept, derivation_kept, refuted_kept, assuming_kept, asked}
+use Rattle.ct_step.specs.State.{State, declared, with_declarations, context_of, changed, asserted, model_kept, derivation_kept, refuted_kept, assuming_kept}
 use Rattle.ct_step.specs.Refusal.{IsRefusal}
-use Rattle.ct_step.specs.Step.{CommandEffect, Does, Steps, Step, PrintsCore, refused, said, quiet, decided, counted_by}
+use Rattle.ct_step.specs.Step.{CommandEffect, Does, DecidesAssuming, Steps, Step, PrintsCore, refused, said, quiet, counted_by}
 use Rattle.ct_script.specs.Answers.{errors_of}
 use Rattle.ct_step.specs.Done.{IsAnswer, Performs, IsSame, state_of, evidence_of}
 use Rattle.ct_script.specs.Session.{Course, reached, after}
@@ -47,7 +44,7 @@ no_error s number (declare_fun name args sort) e is = only_needing (λ d. declar
 no_error s number (define_fun name params sort t) e is = only_needing (λ d. defined_function d name params sort t) (declared s) (λ later f. e ≡ quiet (changed s (in_context s.stack (defined_in (over (context_of s) later) f)))) (e.error ≡ None) (λ later f comes h. ap (λ (x : CommandEffect). x.error) h) is
 no_error s number (assert t label) e is = only_needing (λ d. asserted_formula d t) (declared s) (λ later formula. e ≡ quiet (asserted s (declaring s.stack later) label formula)) (e.error ≡ None) (λ later formula comes h. ap (λ (x : CommandEffect). x.error) h) is
 no_error s number check_sat e is = ap (λ (x : CommandEffect). x.error) is.2
-no_error s number (check_sat_assuming ls) e is = only (assumptions (declared s) ls) (λ assumed. (v : Verdict) × ComesTo (context_of s) (asked s assumed) (budget s.options) v × (e ≡ decided s None assumed v)) (e.error ≡ None) (λ assumed h. ap (λ (x : CommandEffect). x.error) h.2) is
+no_error s number (check_sat_assuming ts) e is = only_needing (λ d. assumptions d ts) (declared s) (λ later assumed. DecidesAssuming (with_declarations s later) assumed e) (e.error ≡ None) (λ later assumed comes h. ap (λ (x : CommandEffect). x.error) h.2) is
 no_error s number (push n) e is = error_of e _ refl is
 no_error s number (pop n) e is = error_of e _ refl is
 no_error s number reset_assertions e is = error_of e _ refl is

@@ -37,7 +37,7 @@
 //! ```
 //!
 //! Lines 1 and 2 extend the `Signature` of the assertion stack (`ct_stack`). Line 3 declares the definition `positive`, asserts
-//! it, and compiles it into the stack's table; `labels` gets its entry. Line 4 passes that table to `solve_kept` of `ct_engine`
+//! it, and compiles it into the stack's table; `labels` gets its entry. Line 4 passes that table to `solve_on` of `ct_engine`
 //! with the store of theory lemmas. Its word is appended to `responses`, the verdict is `last`, and `kept` says that it stands and
 //! that its check has number 1. Line 5 evaluates `(pred n)` in its model and remembers the value in `known`. Line 6 sets a mark, which ends
 //! the verdict: `kept` and `known` are empty again. Line 7 is refused: nothing changes except that `errors` gets the entry (7,
@@ -56,6 +56,6 @@ mod theorems;
 pub use ct_command::ErrorBehavior;
 pub use ct_step::{Answer, CheckResponse, refusal_text};
 pub use error::SessionError;
-pub use replay::Replayed;
+pub use replay::{Replayed, Standing};
 pub use session::{Given, ScriptError, Session};
 pub use theorems::replayed_scripts;

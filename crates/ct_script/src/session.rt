@@ -3,20 +3,22 @@ ghost use Rattle.std.specs.Prelude.{◌≡◌, map, None, Ok, IfOk, OnErr};
 ghost use Rattle.ct_sexpr.specs.View.{expression_of};
 ghost use Rattle.ct_formulas.specs.TreeFormula.{formula_of};
 ghost use Rattle.ct_command.specs.Reading.{command};
-ghost use Rattle.ct_command.specs.Seen.{command_seen};
+ghost use Rattle.ct_command.specs.Command.{check_sat_assuming};
+ghost use Rattle.ct_command.specs.Seen.{all_seen, items_seen, command_seen};
 ghost use Rattle.ct_stack.specs.Stack.{in_force};
 ghost use Rattle.ct_stack.specs.Held.{context_in, as_one, IsSoundLevel, IsHeld};
 ghost use Rattle.ct_step.specs.State.{first_state, context_of};
 ghost use Rattle.ct_step.specs.Store.{first_store, IsStoreOf, StoresBy};
 ghost use Rattle.ct_step.specs.Evidence.{no_evidence};
-ghost use Rattle.ct_script.specs.Replay.{Replays, is_check, awaits_verdict};
+ghost use Rattle.ct_step.specs.Rehearsal.{assumed_terms};
+ghost use Rattle.ct_script.specs.Replay.{Replays, IsStepped, is_check, hangs, changes, standing_by, unless_refused};
 ghost use Rattle.ct_step.specs.Done.{IsAnswer};
 ghost use Rattle.ct_script.specs.Given.{evidence_in};
 ghost use Rattle.ct_script.specs.Session.{after, starting_course, reached};
 ghost use Rattle.ct_step.specs.Step.{CommandEffect, Step, Steps, counted_with, one_more};
 
 use crate::error::SessionError;
-use crate::replay::Replayed;
+use crate::replay::{Replayed, Standing};
 use ct_check::Scope;
 use ct_command::{Command, CommandError, ErrorBehavior, command_of};
 use ct_engine::{Kept, Verdict};
@@ -25,7 +27,10 @@ use ct_sexpr::Sexpr;
 use ct_shrink::Shrunk;
 use ct_sorts::growth;
 use ct_stack::{AssertionStack, ModelValues};
-use ct_step::{Answer, CheckResponse, Options, SessionState, perform, refused};
+use ct_step::{
+    Answer, Cache, CheckResponse, Options, SessionState, empty_cache, perform, refused,
+    rehearse_assuming,
+};
 use ct_terms::{TermId, TermTable};
 use std::alloc::Global;
 use std::marker::Model;
@@ -53,6 +58,8 @@ pub struct Session {
     state: SessionState,
     // The clauses that the theory gave in earlier checks.
     store: Kept,
+    // What is stored for speed alone.
+    cache: Cache,
     // What is known of values in the model that stands.
     known: Option<ModelValues>,
     errors: Vec<ScriptError>,
@@ -63,6 +70,8 @@ pub struct Session {
 impl Model for Session {
     ghost use Rattle.ct_step.specs.Done.{state_of, evidence_of};
     ghost use Rattle.ct_step.specs.Store.{IsSoundWith};
+    ghost use Rattle.ct_step.specs.Cache.{IsCacheOf};
+    ghost use Rattle.ct_step.specs.State.{declared};
     ghost use Rattle.ct_step.specs.Known.{AreKnown};
     ghost use Rattle.ct_script.specs.Session.{Course};
 
@@ -76,7 +85,7 @@ impl Model for Session {
 
     ghost view = { λ s. record { state = state_of s.state; number = s.number; evidence = evidence_of s.state; errors = s.errors.items; store = s.store } };
 
-    ghost invariant = { λ s. IsSoundWith (state_of s.state) s.store × AreKnown (state_of s.state) s.known };
+    ghost invariant = { λ s. IsSoundWith (state_of s.state) s.store × IsCacheOf (declared (state_of s.state)) s.cache × AreKnown (state_of s.state) s.known };
 }
 
 impl Session {
@@ -99,6 +108,7 @@ impl Session {
                 kept: None,
             },
             store,
+            cache: empty_cache(),
             known: None,
             errors: Vec::new(alloc),
             number: 0,
@@ -128,23 +138,30 @@ impl Session {
     }
 
     /// Makes the change of declarations, assertions, levels and options that a command on this line makes, without solving and
-    /// without an answer: a check is only counted, and one with assumptions, or a question about what the last verdict left, is
-    /// passed over. A refused command changes nothing but the list of errors, and ends the script under immediate exit. Where memory
-    /// runs out nothing has changed.
-    pub fn replay(&mut self, line: u64, expr: &Sexpr) -> Result<Replayed, SessionError>
+    /// without an answer: a check is only counted, one with assumptions declares the sorts that its terms need, and a question about
+    /// what the last verdict left is passed over, if its refusal hangs on that verdict. A refused command changes nothing but the list
+    /// of errors, and ends the script under immediate exit. Where memory runs out nothing has changed. The caller keeps of what check a
+    /// verdict stands.
+    pub fn replay(
+        &mut self,
+        line: u64,
+        expr: &Sexpr,
+        standing: Standing,
+    ) -> Result<Replayed, SessionError>
         requires unanswered { self.old.evidence ≡ no_evidence }
-        ensures replayed { IfOk result (Replays self.old line (command (expression_of expr.now)) self.new) }
+        ensures replayed { IfOk result (Replays self.old standing line (command (expression_of expr.now)) self.new) }
         ensures unanswered { self.new.evidence ≡ no_evidence }
         ensures unchanged { OnErr result (self.new ≡ self.old) }
     {
         match command_of(self.alloc, expr) {
-            Ok(command) => self.replay_command(line, command),
+            Ok(command) => self.replay_command(line, command, standing),
             Err(CommandError::Refused(code)) => {
                 let options = self.state.options;
                 let answer = refused(self.alloc, &mut self.errors, options, line, code)?;
                 Ok(Replayed {
                     check: false,
                     stop: answer.stop,
+                    standing,
                 })
             }
             Err(CommandError::NoMemory) => Err(SessionError),
@@ -204,6 +221,7 @@ impl Session {
         let state = self.state;
         drop(state.stack);
         drop(self.store);
+        drop(self.cache);
         drop(self.known);
         drop(state.labels);
         drop(state.kept);
@@ -215,9 +233,14 @@ impl Session {
         }
     }
 
-    // Counts a check, passes over what awaits a verdict, and does every other command.
-    fn replay_command(&mut self, line: u64, command: Command<'_>) -> Result<Replayed, SessionError>
-        ensures replayed { IfOk result (Replays self.old line (Ok (command_seen command.entry)) self.new) }
+    // Counts a check, passes over what hangs on a verdict, and does every other command, of a check with assumptions all but its verdict.
+    fn replay_command(
+        &mut self,
+        line: u64,
+        command: Command<'_>,
+        standing: Standing,
+    ) -> Result<Replayed, SessionError>
+        ensures replayed { IfOk result (Replays self.old standing line (Ok (command_seen command.entry)) self.new) }
         ensures unanswered { self.old.evidence ≡ no_evidence → self.new.evidence ≡ no_evidence }
         ensures unchanged { OnErr result (self.new ≡ self.old) }
     {
@@ -226,19 +249,64 @@ impl Session {
             return Ok(Replayed {
                 check: true,
                 stop: false,
+                standing: Standing::Check,
             });
         }
-        if awaits_verdict(&command) {
+        if hangs(standing, &command) {
             return Ok(Replayed {
                 check: false,
                 stop: false,
+                standing,
             });
         }
+        if let Some(terms) = assumed_terms(&command) {
+            return self.rehearse(line, terms, standing);
+        }
+        self.nothing_kept();
+        let changes = changes(&command);
         let answer = self.perform(line, command)?;
         Ok(Replayed {
             check: false,
             stop: answer.stop,
+            standing: standing_after(standing, changes, answer.error),
         })
+    }
+
+    // Nothing is kept of a verdict where none was given.
+    fn nothing_kept(&self)
+        ensures kept { self.now.evidence ≡ no_evidence → self.now.state.kept ≡ None }
+    {
+        let _number = self.number;
+    }
+
+    // Does what a check does that assumes these terms, but for its verdict.
+    fn rehearse(
+        &mut self,
+        line: u64,
+        terms: &[Sexpr],
+        standing: Standing,
+    ) -> Result<Replayed, SessionError>
+        ensures rehearsed { IfOk result (IsStepped self.old standing line (Ok (check_sat_assuming (all_seen terms.now))) self.new) }
+        ensures unanswered { self.old.evidence ≡ no_evidence → self.new.evidence ≡ no_evidence }
+        ensures unchanged { OnErr result (self.new ≡ self.old) }
+    {
+        let options = self.state.options;
+        match rehearse_assuming(self.alloc, &mut self.state, terms) {
+            Ok(()) => Ok(Replayed {
+                check: false,
+                stop: false,
+                standing: Standing::Assuming,
+            }),
+            Err(CommandError::Refused(code)) => {
+                let answer = refused(self.alloc, &mut self.errors, options, line, code)?;
+                Ok(Replayed {
+                    check: false,
+                    stop: answer.stop,
+                    standing,
+                })
+            }
+            Err(CommandError::NoMemory) => Err(SessionError),
+        }
     }
 
     // Does a command, or answers why it is refused.
@@ -254,6 +322,7 @@ impl Session {
             self.alloc,
             &mut self.state,
             &mut self.store,
+            &mut self.cache,
             &mut self.known,
             number,
             command,
@@ -289,19 +358,55 @@ fn is_check(command: &Command<'_>) -> bool
     matches!(command, Command::CheckSat)
 }
 
-// Whether the command is a check with assumptions, or asks for what the last verdict left.
-fn awaits_verdict(command: &Command<'_>) -> bool
-    ensures value { result ≡ awaits_verdict (Ok (command_seen command.now)) }
+// What the command assumes, where it is a check with assumptions.
+fn assumed_terms<'a>(command: &Command<'a>) -> Option<&'a [Sexpr]>
+    ensures value { items_seen result ≡ assumed_terms (Ok (command_seen command.now)) }
+{
+    match command {
+        Command::CheckSatAssuming(terms) => Some(terms),
+        _ => None,
+    }
+}
+
+// Whether the command asks for what the last verdict left, and hangs on that verdict.
+fn hangs(standing: Standing, command: &Command<'_>) -> bool
+    ensures value { result ≡ hangs standing (Ok (command_seen command.now)) }
+{
+    match command {
+        Command::GetModel | Command::GetValue(_) | Command::GetUnsatCore => standing.stands(),
+        Command::GetProof => standing.is_numbered(),
+        Command::GetUnsatAssumptions => standing.is_assuming(),
+        _ => false,
+    }
+}
+
+// Whether no verdict stands after the command, where it is accepted.
+fn changes(command: &Command<'_>) -> bool
+    ensures value { result ≡ changes (Ok (command_seen command.now)) }
 {
     matches!(
         command,
-        Command::CheckSatAssuming(_)
-            | Command::GetModel
-            | Command::GetValue(_)
-            | Command::GetProof
-            | Command::GetUnsatCore
-            | Command::GetUnsatAssumptions
+        Command::DeclareSort(..)
+            | Command::DefineSort(..)
+            | Command::DeclareBlock(..)
+            | Command::DeclareFun(..)
+            | Command::DefineFun(..)
+            | Command::Assert(..)
+            | Command::Push(_)
+            | Command::Pop(_)
+            | Command::ResetAssertions
+            | Command::Reset
     )
+}
+
+// Of what check a verdict stands after a command that is no check, by its error.
+fn standing_after(standing: Standing, changes: bool, error: Option<u16>) -> Standing
+    ensures value { result ≡ unless_refused error standing (standing_by None changes standing) }
+{
+    if error.is_some() || !changes {
+        return standing;
+    }
+    Standing::Nothing
 }
 
 // One more; the last number stays.

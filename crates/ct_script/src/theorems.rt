@@ -5,6 +5,7 @@ ghost use Rattle.ct_sexpr.specs.Expression.{Expression};
 ghost use Rattle.ct_command.specs.Reading.{Read, command};
 ghost use Rattle.ct_step.specs.Evidence.{Evidence};
 ghost use Rattle.ct_script.specs.declared.replay.Replayed.{Replayed};
+ghost use Rattle.ct_script.specs.declared.replay.Standing.{Standing};
 ghost use Rattle.ct_step.specs.State.{State};
 ghost use Rattle.ct_step.specs.Step.{CommandEffect, Steps, Step, counted};
 ghost use Rattle.ct_script.specs.Answers.{Answers, Leads};
@@ -41,34 +42,34 @@ pub fn replayed_scripts()
     // So an expression that is replayed makes of them what its step makes of them, ends the script
     // with it where that is no matter of a verdict, and counts as its step does.
     ensures replayed { (s : State) (number line : ℕ) (x : Expression) (e : CommandEffect) (old new : Course)
-        (r : Replayed)
+        (standing : Standing) (r : Replayed)
         → HaveOneStack s old.state
         → Step s number line x e
-        → Replays old line (command x) new r
+        → Replays old standing line (command x) new r
         → HaveOneStack e.state new.state × (is_undecided (command x) ≡ false → r.stop ≡ e.stop) }
-    ensures counted { (line : ℕ) (x : Expression) (old new : Course) (r : Replayed)
-        → Replays old line (command x) new r
+    ensures counted { (line : ℕ) (x : Expression) (old new : Course) (standing : Standing) (r : Replayed)
+        → Replays old standing line (command x) new r
         → new.number ≡ counted old.number x }
 
     // It tells of each check, and of nothing else, that it is one.
-    ensures told { (line : ℕ) (x : Expression) (old new : Course) (r : Replayed)
-        → Replays old line (command x) new r
+    ensures told { (line : ℕ) (x : Expression) (old new : Course) (standing : Standing) (r : Replayed)
+        → Replays old standing line (command x) new r
         → r.check ≡ is_check (command x) }
 
     // And a replay of commands comes to the stack, the options and the number of checks to which
     // the commands lead.
     ensures replay { (s last : State) (number count : ℕ) (cs : List Located)
         (kept : Evidence) (errors : List (ℕ × ℕ)) (lines : List (List ℕ))
-        (old new : Course)
+        (old new : Course) (standing : Standing)
         → Leads s number cs last count kept errors lines
-        → GoesThrough old cs new
+        → GoesThrough old standing cs new
         → HaveOneStack s old.state
         → HaveOneStack last new.state }
     ensures count { (s last : State) (number count : ℕ) (cs : List Located)
         (kept : Evidence) (errors : List (ℕ × ℕ)) (lines : List (List ℕ))
-        (old new : Course)
+        (old new : Course) (standing : Standing)
         → Leads s number cs last count kept errors lines
-        → GoesThrough old cs new
+        → GoesThrough old standing cs new
         → old.number ≡ number
         → new.number ≡ count }
 
@@ -77,9 +78,9 @@ pub fn replayed_scripts()
     // one of these commands, which is refused under immediate exit as a verdict has it.
     ensures through { (s : State) (number : ℕ) (first others : List Located) (ending : Ending)
         (kept : Evidence) (errors : List (ℕ × ℕ)) (lines : List (List ℕ))
-        (old new : Course)
+        (old new : Course) (standing : Standing)
         → Answers s number (first ++ others) ending kept errors lines
-        → GoesThrough old first new
+        → GoesThrough old standing first new
         → HaveOneStack s old.state
         → ((last : State) × (count : ℕ)
         × AnswersThrough s number first others ending kept errors lines last count)

@@ -1,150 +1,101 @@
--- What literals assume, one after the other, and that it is Boolean.
-use Rattle.std.proofs.Common.{◌≡◌, ℕ, Bool, true, false, List, [], ◌∷◌, ◌==◌, length, slice_get, All, Option, None, Some, option_map, map, Result, Ok, Err, refl, sym, ap, subst, ◌∙◌}
-use Rattle.std.proofs.lemmas.Bool.{eqb-true}
-use Rattle.std.proofs.lemmas.List.{nil_from_length}
-use Rattle.std.proofs.lemmas.List.Elements.{All-nil, All-cons, All-head, All-tail}
-use Rattle.std.proofs.lemmas.Option.{none-some, same_Some}
+-- What terms assume, one after the other, and that it is Boolean; and what becomes of the assertion stack.
+use Rattle.std.proofs.Common.{◌≡◌, ◌∙◌, ℕ, List, [], ◌∷◌, All, Result, Ok, Err, IfOk, OnOk, OnErr, refl, sym, ap, subst}
+use Rattle.std.specs.Global.{Vec}
+use Rattle.std.specs.Prelude.{IsErrOf}
+use Rattle.std.proofs.lemmas.List.Elements.{All-nil, All-cons, All-head, All-tail, All-weaker}
+use Rattle.ct_sexpr.specs.Expression.{Expression}
 use Rattle.ct_sexpr.specs.Written.{written}
-use Rattle.ct_sorts.specs.declared.ids.SortId.{SortId}
-use Rattle.ct_sorts.specs.declared.ids.FunId.{FunId}
-use Rattle.ct_sorts.specs.declared.ids.DefId.{DefId}
-use Rattle.ct_sorts.specs.declared.ids.Symbol.{Symbol}
-use Rattle.ct_sorts.specs.declared.ids.Symbol.TheVariants as symbol
-use Rattle.ct_sorts.specs.Declarations.{Declarations, Function, bool_sort}
-use Rattle.ct_formulas.specs.Formula.{Formula, Apply, Def, no_formulas}
-use Rattle.ct_formulas.specs.FormulaSorts.{IsSorted, AllSorted}
-use Rattle.ct_names.specs.Outcome.{Outcome, and_then, unless_refused, is_sort}
-use Rattle.ct_names.specs.Refusals.{wrong_count, wrong_sort}
-use Rattle.ct_names.specs.Symbols.{symbol_of}
-use Rattle.ct_formulas.specs.declared.tree.Tree.{Tree}
+use Rattle.ct_sorts.specs.Consistent.{IsConsistent}
+use Rattle.ct_sorts.specs.Declarations.{Declarations, bool_sort}
+use Rattle.ct_sorts.specs.Grown.{Extends}
+use Rattle.ct_formulas.specs.Formula.{Formula}
+use Rattle.ct_formulas.specs.FormulaSorts.{IsSorted}
 use Rattle.ct_formulas.specs.TreeFormula.{formula_of}
+use Rattle.ct_formulas.specs.declared.tree.Tree.{Tree}
+use Rattle.ct_names.specs.Needs.{Grows, ComesTo}
+use Rattle.ct_names.specs.Outcome.{Elaborated, and_then}
+use Rattle.ct_names.specs.Refusals.{wrong_sort}
 use Rattle.ct_command.specs.declared.error.CommandError.{CommandError}
-use Rattle.ct_command.specs.declared.error.CommandError.TheVariants.{Refused, NoMemory}
-use Rattle.ct_command.specs.Command.{Literal}
+use Rattle.ct_command.specs.declared.error.CommandError.TheVariants.{Refused}
 use Rattle.ct_stack.specs.declared.assuming.Assumption.{Assumption as Assumed}
-use Rattle.ct_stack.specs.Assuming.{Assumption, truth_of, truth_named, signed, assumption_of, assumptions, assumed_formulas, assumption_seen, assumptions_seen, list_seen, IsTruth}
-use Rattle.ct_stack.specs.Outcomes.{Comes, each_of}
-use Rattle.ct_stack.proofs.DefineLemmas.{same_sort}
-use Rattle.ct_stack.proofs.OutcomeLemmas.{Completes, stopped}
+use Rattle.ct_stack.specs.Assuming.{Assumption, assumption_of, assumptions, assumed_formulas, assumption_seen, assumptions_seen, list_seen, Assumes, RefusesToAssume, IsTruth}
+use Rattle.ct_stack.specs.Elaborations.{boolean_formula}
+use Rattle.ct_stack.specs.Levels.{pushed}
+use Rattle.ct_stack.specs.Stack.{Stack, declaring}
+use Rattle.ct_stack.specs.Theorems.{Theorems}
+use Rattle.ct_stack.proofs.AssertionLemmas.{boolean_lasts}
+use Rattle.ct_stack.proofs.NeededLemmas.{comes_stop, comes_last, comes_grows, value_there}
 
--- a function that stands for a formula takes no arguments and is Boolean
-module _ (u : Formula) (f : Function) (t : Formula) where
-  truth_by : (none boolean : Bool) → (length f.args == 0) ≡ none → is_sort f.result bool_sort ≡ boolean → unless_refused none wrong_count (unless_refused boolean wrong_sort (Ok u)) ≡ Ok t → (f.args ≡ []) × (f.result ≡ bool_sort) × (u ≡ t)
-  truth_by true true n b e =
-      let same : u ≡ t = cc in
-      (nil_from_length f.args (eqb-true (length f.args) 0 n), same_sort f.result bool_sort b, same)
-  truth_by true false n b e = absurd cc
-  truth_by false boolean n b e = absurd cc
+-- what a term assumes, by its formula
+module _ (t : Expression) (d later : Declarations) where
+  abbrev formula_in : Declarations → Elaborated Formula
+  formula_in n = boolean_formula wrong_sort n t
 
-  truth_is : truth_of u (Some f) ≡ Ok t → (f.args ≡ []) × (f.result ≡ bool_sort) × (u ≡ t)
-  truth_is e = truth_by (length f.args == 0) (is_sort f.result bool_sort) refl refl e
+  abbrev assumed_by : Declarations → Formula → Elaborated Assumption
+  assumed_by n formula = Ok (record { text = written t; formula = formula })
+
+  pub no_assumption : (n : ℕ) → ComesTo formula_in d later (Err n) → ComesTo (λ k. assumption_of k t) d later (Err n)
+  no_assumption n h = comes_stop formula_in assumed_by d later n h
+
+  module _ (formula : Formula) (text : List ℕ) (is : text ≡ written t) (h : ComesTo formula_in d later (Ok formula)) where
+    abbrev given : Assumption
+    given = record { text = text; formula = formula }
+
+    as_written : {E : Type 0} → ◌≡◌ {A = Result Assumption E} (Ok (record { text = written t; formula = formula })) (Ok given)
+    as_written = ap (λ (x : List ℕ). Ok (record { text = x; formula = formula })) (sym is)
+
+    pub an_assumption : ComesTo (λ k. assumption_of k t) d later (Ok given)
+    an_assumption = comes_last formula_in assumed_by d later formula h given as_written
+
+    pub assumption_lasts : IsConsistent later → (n : Declarations) → Grows n later → assumption_of n t ≡ Ok given
+    assumption_lasts c n grows =
+        ap (λ (o : Elaborated Formula). and_then o (assumed_by n)) (boolean_lasts wrong_sort t n later grows c formula (value_there formula_in d later formula h))
+        ∙ as_written
 
 module _ (d : Declarations) where
-  function_at : (f : FunId) (o : Option Function) (t : Formula) → slice_get d.functions f.0 ≡ o → truth_of (Apply f no_formulas) o ≡ Ok t → IsSorted d [] t bool_sort
-  function_at f None t there e = absurd cc
-  function_at f (Some g) t there e =
-      let p = truth_is (Apply f no_formulas) g t e in
-      subst (λ (x : Formula). IsSorted d [] x bool_sort) p.2 (g, there, subst (λ (sorts : List SortId). AllSorted d [] no_formulas sorts) (sym p.0) tt, p.1)
-
-  definition_at : (k : DefId) (o : Option Function) (t : Formula) → slice_get d.definitions k.0 ≡ o → truth_of (Def k no_formulas) o ≡ Ok t → IsSorted d [] t bool_sort
-  definition_at k None t there e = absurd cc
-  definition_at k (Some g) t there e =
-      let p = truth_is (Def k no_formulas) g t e in
-      subst (λ (x : Formula). IsSorted d [] x bool_sort) p.2 (g, there, subst (λ (sorts : List SortId). AllSorted d [] no_formulas sorts) (sym p.0) tt, p.1)
-
-  pub truth_sorted : (o : Option Symbol) (t : Formula) → truth_named d o ≡ Ok t → IsSorted d [] t bool_sort
-  truth_sorted (Some (symbol.Fun f)) t e = function_at f (slice_get d.functions f.0) t refl e
-  truth_sorted (Some (symbol.Def k)) t e = definition_at k (slice_get d.definitions k.0) t refl e
-  truth_sorted (Some (symbol.Ctor c)) t e = absurd cc
-  truth_sorted (Some (symbol.Sel s)) t e = absurd cc
-  truth_sorted (Some (symbol.GenCtor g i)) t e = absurd cc
-  truth_sorted (Some (symbol.GenSel g i j)) t e = absurd cc
-  truth_sorted None t e = absurd cc
-
-  pub signed_sorted : (negated : Bool) (t : Formula) → IsSorted d [] t bool_sort → IsSorted d [] (signed negated t) bool_sort
-  signed_sorted true t h = (h, refl)
-  signed_sorted false t h = h
-
-  -- what a literal assumes, by the formula of its symbol
-  abbrev made : Literal → Formula → Assumption
-  made l t = record { text = written l.expr; formula = signed l.negated t }
-
-  abbrev IsBoolean : Assumption → Type 0
-  IsBoolean a = IsSorted d [] a.formula bool_sort
-
-  assumption_by : (l : Literal) (a : Assumption) (o : Outcome Formula) → truth_named d (symbol_of d l.name) ≡ o → and_then o (λ t. Ok (made l t)) ≡ Ok a → IsBoolean a
-  assumption_by l a (Ok t) is e =
-      let same : made l t ≡ a = cc in
-      subst IsBoolean same (signed_sorted l.negated t (truth_sorted (symbol_of d l.name) t is))
-  assumption_by l a (Err n) is e = absurd cc
-
-  pub assumption_sorted : (l : Literal) (a : Assumption) → assumption_of d l ≡ Ok a → IsBoolean a
-  assumption_sorted l a e = assumption_by l a (truth_named d (symbol_of d l.name)) refl e
-
-  assumptions_by : (l : Literal) (ls : List Literal) (assumed : List Assumption) (o : Outcome Assumption) (others : Outcome (List Assumption)) → assumption_of d l ≡ o → ((rest : List Assumption) → others ≡ Ok rest → All IsBoolean rest) → and_then o (λ a. and_then others (λ rest. Ok (a ∷ rest))) ≡ Ok assumed → All IsBoolean assumed
-  assumptions_by l ls assumed (Ok a) (Ok rest) is later e =
-      let same : a ∷ rest ≡ assumed = cc in
-      subst (All IsBoolean) same (All-cons IsBoolean a rest (assumption_sorted l a is) (later rest refl))
-  assumptions_by l ls assumed (Ok a) (Err n) is later e = absurd cc
-  assumptions_by l ls assumed (Err n) others is later e = absurd cc
-
-  pub assumptions_sorted : (ls : List Literal) (assumed : List Assumption) → assumptions d ls ≡ Ok assumed → All IsBoolean assumed
-  assumptions_sorted [] assumed e =
-      let same : [] ≡ assumed = cc in
-      subst (All IsBoolean) same (All-nil IsBoolean)
-  assumptions_sorted (l ∷ ls) assumed e = assumptions_by l ls assumed (assumption_of d l) (each_of (assumption_of d) ls) refl (λ rest are. assumptions_sorted ls rest are) e
-
-  -- and so is each in memory
-  pub seen_sorted : (assumed : List Assumed) → All IsBoolean (map assumption_seen assumed) → All (IsTruth d) assumed
-  seen_sorted [] all = All-nil (IsTruth d)
-  seen_sorted (a ∷ assumed) all =
-      All-cons (IsTruth d) a assumed (All-head IsBoolean (assumption_seen a) (map assumption_seen assumed) all) (seen_sorted assumed (All-tail IsBoolean (assumption_seen a) (map assumption_seen assumed) all))
-
-  -- and so are their formulas
+  -- the formulas of assumptions are Boolean
   pub truths_sorted : (assumed : List Assumed) → All (IsTruth d) assumed → All (λ t. IsSorted d [] t bool_sort) (assumed_formulas (assumptions_seen assumed))
   truths_sorted [] all = All-nil (λ t. IsSorted d [] t bool_sort)
   truths_sorted (a ∷ assumed) all =
       All-cons (λ t. IsSorted d [] t bool_sort) (formula_of a.tree) (assumed_formulas (assumptions_seen assumed)) (All-head (IsTruth d) a assumed all) (truths_sorted assumed (All-tail (IsTruth d) a assumed all))
 
--- a function or a definition is found by its arguments and its result
-function_found : (o : Option Function) (args : List SortId) (sort : SortId) → option_map (λ (f : Function). f.args) o ≡ Some args → option_map (λ (f : Function). f.result) o ≡ Some sort → (name : List ℕ) × (o ≡ Some (record { name = name; args = args; result = sort }))
-function_found None args sort a s = absurd (none-some args a)
-function_found (Some f) args sort a s = (
-  f.name,
-  ap (λ (x : List SortId). Some (record { name = f.name; args = x; result = f.result })) (same_Some f.args args a)
-      ∙ ap (λ (x : SortId). Some (record { name = f.name; args = args; result = x })) (same_Some f.result sort s),
-)
+  -- and so are the assumptions
+  pub truths_seen : (assumed : List Assumed) → All (IsTruth d) assumed → All (λ (a : Assumption). IsSorted d [] a.formula bool_sort) (assumptions_seen assumed)
+  truths_seen [] all = All-nil (λ (a : Assumption). IsSorted d [] a.formula bool_sort)
+  truths_seen (a ∷ assumed) all =
+      All-cons (λ (x : Assumption). IsSorted d [] x.formula bool_sort) (assumption_seen a) (assumptions_seen assumed) (All-head (IsTruth d) a assumed all) (truths_seen assumed (All-tail (IsTruth d) a assumed all))
 
--- what a name stands for, by its symbol
-module _ (d : Declarations) (name : List ℕ) (t : Formula) (args : List SortId) (sort : SortId) (r : Result Tree CommandError) (said : (n : List ℕ) → Comes formula_of (truth_of t (Some (record { name = n; args = args; result = sort }))) r) where
-  found_truth : (o : Option Function) (u : Formula) → t ≡ u → option_map (λ (f : Function). f.args) o ≡ Some args → option_map (λ (f : Function). f.result) o ≡ Some sort → Comes formula_of (truth_of u o) r
-  found_truth o u same a s =
-      let found = function_found o args sort a s in
-      subst (λ (x : Option Function). Comes formula_of (truth_of u x) r) (sym found.1)
-      (subst (λ (x : Formula). Comes formula_of (truth_of x (Some (record { name = found.0; args = args; result = sort }))) r) same (said found.0))
+-- as more is declared
+pub truths_last : Theorems → (later earlier : Declarations) → IsConsistent later → IsConsistent earlier → Extends later earlier → (assumed : List Assumed) → All (IsTruth earlier) assumed → All (IsTruth later) assumed
+truths_last theorems later earlier consistent before extends assumed all =
+    All-weaker (IsTruth earlier) (IsTruth later) (λ a h. theorems.sorted_lasting later earlier [] (formula_of a.tree) bool_sort consistent before extends h) assumed all
 
-  pub function_truth : (f : FunId) → Some (symbol.Fun f) ≡ symbol_of d name → t ≡ Apply f no_formulas → option_map (λ (f : Function). f.args) (slice_get d.functions f.0) ≡ Some args → option_map (λ (f : Function). f.result) (slice_get d.functions f.0) ≡ Some sort → Comes formula_of (truth_named d (symbol_of d name)) r
-  function_truth f is same a s =
-      subst (λ (o : Option Symbol). Comes formula_of (truth_named d o) r) is (found_truth (slice_get d.functions f.0) (Apply f no_formulas) same a s)
+-- a value that is given stays where nothing was cut back
+pub back_value : {T : Type 0} (q r : Result T CommandError) → q ≡ r → (holds : Declarations → T → Type 0) (new mid : Declarations) → IfOk r (holds mid) → OnOk r (new ≡ mid) → IfOk q (holds new)
+back_value {T} q r same holds new mid given kept = subst (λ (x : Result T CommandError). IfOk x (holds new)) (sym same) (by r given kept)
+  where
+    by : (x : Result T CommandError) → IfOk x (holds mid) → OnOk x (new ≡ mid) → IfOk x (holds new)
+    by (Ok t) given kept = subst (λ (n : Declarations). holds n t) (sym kept) given
+    by (Err e) given kept = tt
 
-  pub definition_truth : (k : DefId) → Some (symbol.Def k) ≡ symbol_of d name → t ≡ Def k no_formulas → option_map (λ (f : Function). f.args) (slice_get d.definitions k.0) ≡ Some args → option_map (λ (f : Function). f.result) (slice_get d.definitions k.0) ≡ Some sort → Comes formula_of (truth_named d (symbol_of d name)) r
-  definition_truth k is same a s =
-      subst (λ (o : Option Symbol). Comes formula_of (truth_named d o) r) is (found_truth (slice_get d.definitions k.0) (Def k no_formulas) same a s)
+-- what the assumptions need was added
+pub assumed_grows : (ts : List Expression) (d later : Declarations) (r : Result (Vec Assumed) CommandError) → IfOk r (λ assumed. ComesTo (λ n. assumptions n ts) d later (Ok (list_seen assumed))) → OnOk r (Grows later d)
+assumed_grows ts d later (Ok assumed) comes = comes_grows (λ n. assumptions n ts) d later (Ok (list_seen assumed)) comes
+assumed_grows ts d later (Err e) comes = tt
 
--- a literal whose formula is refused is refused
-pub literal_stops : (d : Declarations) (l : Literal) (e : CommandError) → Comes formula_of (truth_named d (symbol_of d l.name)) (Err e) → Comes assumption_seen (assumption_of d l) (Err e)
-literal_stops d l (Refused n) h =
-    ap (λ (o : Outcome Formula). and_then o (λ t. Ok (record { text = written l.expr; formula = signed l.negated t }))) h
-literal_stops d l NoMemory h = tt
+-- on the stack whose declarations these are
+module _ (ts : List Expression) (s new : Stack) (d later : Declarations) (is : d ≡ s.top.context.declarations) where
+  pub assumes : (r : Result (Vec Assumed) CommandError) → IfOk r (λ assumed. ComesTo (λ n. assumptions n ts) d later (Ok (list_seen assumed))) → OnOk r (new ≡ declaring s later) → IfOk r (λ assumed. Assumes s ts s new (list_seen assumed))
+  assumes (Ok assumed) comes declared =
+      record { later = later; comes = subst (λ (n : Declarations). ComesTo (λ n. assumptions n ts) n later (Ok (list_seen assumed))) is comes; stack_is = declared }
+  assumes (Err e) comes declared = tt
 
--- what a literal assumes, by its formula
-pub literal_given : (d : Declarations) (l : Literal) (t : Formula) (a : Assumed) → truth_named d (symbol_of d l.name) ≡ Ok t → formula_of a.tree ≡ signed l.negated t → a.text ≡ written l.expr → assumption_of d l ≡ Ok (assumption_seen a)
-literal_given d l t a is formula text =
-    ap (λ (o : Outcome Formula). and_then o (λ t. Ok (record { text = written l.expr; formula = signed l.negated t }))) is
-    ∙ ap (λ (x : List ℕ). Ok (record { text = x; formula = signed l.negated t })) (sym text)
-    ∙ ap (λ (x : Formula). Ok (record { text = a.text; formula = x })) (sym formula)
+-- on a level more the same can be named
+module _ (ts : List Expression) (s mid : Stack) (is : mid ≡ pushed s) where
+  pub assumes_pushed : (new : Stack) (assumed : List Assumption) → Assumes mid ts mid new assumed → Assumes s ts (pushed s) new assumed
+  assumes_pushed new assumed a =
+      let own : Assumes (pushed s) ts (pushed s) new assumed = subst (λ (m : Stack). Assumes m ts m new assumed) is a in
+      record { later = own.later; comes = own.comes; stack_is = own.stack_is }
 
--- a literal that is refused stops all of them
-pub literals_stop : (d : Declarations) (whole : Outcome (List Assumption)) (out : List Assumption) (l : Literal) (left : List Literal) (e : CommandError) → Completes (assumption_of d) whole out (l ∷ left) → Comes assumption_seen (assumption_of d l) (Err e) → Comes list_seen whole (Err e)
-literals_stop d whole out l left (Refused n) completes h = stopped (assumption_of d) whole out l n left h completes
-literals_stop d whole out l left NoMemory completes h = tt
+  pub refuses_pushed : (n : ℕ) → RefusesToAssume mid ts n → RefusesToAssume s ts n
+  refuses_pushed n h = subst (λ (m : Stack). RefusesToAssume m ts n) is h

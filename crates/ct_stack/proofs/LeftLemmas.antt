@@ -52,6 +52,7 @@ module _ (theorems : Theorems) where
       record {
         can_cut = subst (CanCut d) h.exact (theorems.can_cut d left h.consistent h.extends);
         cut_is = ap (cut d) (sym h.exact) ∙ theorems.cut_back d left h.extends;
+        consistent = h.consistent;
       }
 
   -- at the start

@@ -111,6 +111,11 @@ module _ (theorems : Theorems) (later earlier : Declarations) (bodies asserts : 
     )
     change_ok (Err e) P ok more = tt
 
+    -- the same of the stack alone
+    pub declared_after : {T E : Type 0} (r : Result T E) (P : Declarations → Type 0) → OnOk r (P later) → ((d : Declarations) → P d → Extends d earlier) → OnOk r (stack_of (level later bodies asserts) marks ≡ declaring s later)
+    declared_after (Ok x) P ok more = declared_here later refl (more later ok) ∙ ap (λ (t : Stack). declaring t later) is
+    declared_after (Err e) P ok more = tt
+
     pub declared_err : {T E : Type 0} (r : Result T E) → OnErr r (later ≡ earlier) → OnErr r (stack_of (level later bodies asserts) marks ≡ s)
     declared_err (Ok x) err = tt
     declared_err (Err e) err = ap (λ (d : Declarations). stack_of (level d bodies asserts) marks) err ∙ is

@@ -113,11 +113,15 @@ defined_function d name params sort t =
     and_then (body_of d (parameter_names params) f t) (λ body.
     Ok (f, body))))
 
--- the formula that is asserted, which is Boolean
-abbrev pub asserted_formula : Declarations → Expression → Elaborated Formula
-asserted_formula d t =
+-- the formula of a term that is to be Boolean; a term of another sort is refused with this number
+abbrev pub boolean_formula : ℕ → Declarations → Expression → Elaborated Formula
+boolean_formula number d t =
     and_then (elaborated d [] t) (λ formula.
-    unless_halted (is_sort formula.1 bool_sort) not_boolean (Ok formula.0))
+    unless_halted (is_sort formula.1 bool_sort) number (Ok formula.0))
+
+-- the formula that is asserted
+abbrev pub asserted_formula : Declarations → Expression → Elaborated Formula
+asserted_formula d t = boolean_formula not_boolean d t
 
 -- the terms of which the values are asked, in order, with their sorts
 abbrev pub valued_terms : Declarations → List Expression → Elaborated (List Sorted)

@@ -1,6 +1,7 @@
 -- What levels do to the assertion stack (SMT-LIB 2.7, sections 4.2.1 and 4.2.2).
 use Rattle.std.specs.Prelude.{◌≡◌, ℕ, zero, suc, Bool, false, List, [], ◌∷◌, Option, None, Some, if◌then◌else◌}
 use Rattle.ct_sorts.specs.Declarations.{Declarations, start}
+use Rattle.ct_sorts.specs.Consistent.{IsConsistent}
 use Rattle.ct_sorts.specs.Lengths.{Lengths}
 use Rattle.ct_sorts.specs.Marks.{CanCut, cut, lengths}
 use Rattle.ct_stack.specs.Stack.{Level, Stack, first_context}
@@ -39,10 +40,11 @@ left_by global (suc n) s = if global then None else Some (lengths (popped_by fal
 abbrev pub left_emptied : Bool → Option Lengths
 left_emptied global = if global then None else Some (lengths start)
 
--- the declarations can be cut to the mark, and then these are left
+-- the declarations can be cut to the mark, and then these are left, which agree with each other
 pub record IsCutTo (d : Declarations) (m : Lengths) (left : Declarations) : Type 0 where
   pub can_cut : CanCut d m
   pub cut_is : cut d m ≡ left
+  pub consistent : IsConsistent left
 
 -- the mark is of as many lists beside sorts and beside sorts without parameters and generics as of these
 abbrev pub IsBeside : Lengths → Type 0

@@ -1,30 +1,30 @@
 //! Assumptions of a check (SMT-LIB 2.7, section 4.2.5), and their core terms beside those of the assertions.
-ghost use Rattle.std.specs.Prelude.{◌≡◌, ◌≤◌, ℕ, List, ◌++◌, All, map, length, Some, Err, IfOk, OnOk, OnErr, IsErrOf};
+ghost use Rattle.std.specs.Prelude.{◌≡◌, ◌≤◌, ℕ, List, ◌++◌, All, map, length, Ok, Err, IfOk, OnOk, OnErr, IsErrOf};
 ghost use Rattle.ct_sexpr.specs.View.{expression_of};
 ghost use Rattle.ct_sexpr.specs.Written.{written};
+ghost use Rattle.ct_sorts.specs.Declarations.{Declarations};
+ghost use Rattle.ct_sorts.specs.Grown.{Extends};
 ghost use Rattle.ct_terms.specs.CoreTree.{CoreTree};
 ghost use Rattle.ct_terms.specs.Terms.{AreSorted, most_terms};
 ghost use Rattle.ct_formulas.specs.FormulaSorts.{AreSound};
 ghost use Rattle.ct_formulas.specs.TreeFormula.{formula_of};
-ghost use Rattle.ct_names.specs.Symbols.{symbol_of};
-ghost use Rattle.ct_command.specs.Seen.{literal_seen};
+ghost use Rattle.ct_names.specs.Needs.{Grows, ComesTo};
+ghost use Rattle.ct_command.specs.Seen.{all_seen};
 ghost use Rattle.ct_compile.specs.Effect.{IsPrefix, AllStand};
-ghost use Rattle.ct_stack.specs.Assuming.{truth_of, truth_named, signed, assumption_of, assumptions, assumed_formulas, with_assumed, assumption_seen, assumptions_seen, list_seen, IsTruth};
+ghost use Rattle.ct_stack.specs.Assuming.{assumption_of, assumptions, assumed_formulas, with_assumed, assumption_seen, assumptions_seen, list_seen, IsTruth};
 ghost use Rattle.ct_stack.specs.Held.{IsHeld, IsTableOf, context_in, level_in};
 ghost use Rattle.ct_stack.specs.Numbers.{too_many_terms};
-ghost use Rattle.ct_stack.specs.Outcomes.{Comes};
 ghost use Rattle.ct_stack.specs.Refusal.{HasManyTerms};
 ghost use Rattle.ct_stack.specs.Stack.{cores};
 
-use crate::sorts::{BOOL, is_sort};
-use crate::terms::core_number;
+use crate::sorts::or_back;
+use crate::terms::{boolean_formula, core_number};
 use crate::theorems::stack_theorems;
 use ct_check::Scope;
-use ct_command::{CommandError, Literal};
+use ct_command::CommandError;
 use ct_formulas::Tree;
-use ct_names::{UNKNOWN_SYMBOL, WRONG_COUNT, WRONG_SORT, symbol_named};
+use ct_names::WRONG_SORT;
 use ct_sexpr::{Bytes, Sexpr, sexpr_text};
-use ct_sorts::{Signature, SortId, Symbol};
 use ct_terms::{TermId, TermTable, core_trees};
 use std::alloc::Global;
 
@@ -37,84 +37,66 @@ pub struct Assumption {
     pub text: Bytes,
 }
 
-/// What these literals assume, in order, up to the first error.
+/// What these terms assume, in order, up to the first error. The sorts that they need come into the list, but after an error all is as
+/// it was.
 pub(crate) fn assumptions(
     alloc: Global,
-    scope: &Scope,
-    literals: &[Literal<'_>],
+    scope: &mut Scope,
+    terms: &[Sexpr],
 ) -> Result<Vec<Assumption>, CommandError>
-    ensures value { Comes list_seen (assumptions scope.now.sig (map literal_seen literals.now)) result }
-    ensures sorted { IfOk result (λ assumed. All (IsTruth scope.now.sig) assumed.items) }
+    ensures ok { IfOk result (λ assumed. ComesTo (λ d. assumptions d (all_seen terms.now)) scope.old.sig scope.new.sig (Ok (list_seen assumed))) }
+    ensures refused { (n : ℕ) → IsErrOf result (CommandError.Refused n)
+        → (later : Declarations) × ComesTo (λ d. assumptions d (all_seen terms.now)) scope.old.sig later (Err n) }
+    ensures sorted { IfOk result (λ assumed. All (IsTruth scope.new.sig) assumed.items) }
+    ensures bodies { scope.new.bodies ≡ scope.old.bodies }
+    ensures unchanged { OnErr result (scope.new.sig ≡ scope.old.sig) }
 {
-    let mut left = literals;
-    let mut read = Vec::with_capacity(alloc, literals.len())?;
+    stack_theorems();
+    let before = scope.sig.mark();
+    let read = all_assumptions(alloc, scope, terms);
+    or_back(&mut scope.sig, &before, read)
+}
+
+// The same; after an error sorts may have come into the list.
+fn all_assumptions(
+    alloc: Global,
+    scope: &mut Scope,
+    terms: &[Sexpr],
+) -> Result<Vec<Assumption>, CommandError>
+    ensures ok { IfOk result (λ assumed. ComesTo (λ d. assumptions d (all_seen terms.now)) scope.old.sig scope.new.sig (Ok (list_seen assumed))) }
+    ensures refused { (n : ℕ) → IsErrOf result (CommandError.Refused n)
+        → ComesTo (λ d. assumptions d (all_seen terms.now)) scope.old.sig scope.new.sig (Err n) }
+    ensures sorted { IfOk result (λ assumed. All (IsTruth scope.new.sig) assumed.items) }
+    ensures grown { Extends scope.new.sig scope.old.sig }
+    ensures bodies { scope.new.bodies ≡ scope.old.bodies }
+{
+    stack_theorems();
+    let mut left = terms;
+    let mut read = Vec::with_capacity(alloc, terms.len())?;
     while let [first, others @ ..] = left {
-        let one = assumption_of(alloc, &scope.sig, first)?;
+        scope.sig.sorts();
+        let one = assumption_of(alloc, scope, first)?;
+        scope.sig.sorts();
         read.push(one)?;
         left = others;
     }
     Ok(read)
 }
 
-// What a literal assumes.
-fn assumption_of(
-    alloc: Global,
-    sig: &Signature,
-    literal: &Literal<'_>,
-) -> Result<Assumption, CommandError>
-    ensures value { Comes assumption_seen (assumption_of sig.now (literal_seen literal.now)) result }
+// What a term assumes, which is to be Boolean.
+fn assumption_of(alloc: Global, scope: &mut Scope, expr: &Sexpr) -> Result<Assumption, CommandError>
+    ensures ok { IfOk result (λ a. ComesTo (λ d. assumption_of d (expression_of expr.now)) scope.old.sig scope.new.sig (Ok (assumption_seen a))) }
+    ensures refused { (n : ℕ) → IsErrOf result (CommandError.Refused n)
+        → ComesTo (λ d. assumption_of d (expression_of expr.now)) scope.old.sig scope.new.sig (Err n) }
+    ensures sorted { IfOk result (IsTruth scope.new.sig) }
+    ensures lasts { IfOk result (λ a. (later : Declarations) → Grows later scope.new.sig → assumption_of later (expression_of expr.now) ≡ Ok (assumption_seen a)) }
+    ensures grown { Extends scope.new.sig scope.old.sig }
+    ensures bodies { scope.new.bodies ≡ scope.old.bodies }
 {
-    let truth = truth_named(alloc, sig, literal.name)?;
-    let tree = signed(alloc, literal.negated, truth)?;
-    let text = text_of(alloc, literal.expr)?;
+    let tree = boolean_formula(alloc, scope, expr, WRONG_SORT)?;
+    scope.sig.sorts();
+    let text = text_of(alloc, expr)?;
     Ok(Assumption { tree, text })
-}
-
-// The formula of a function or a definition by its name, which takes no arguments and is Boolean.
-fn truth_named(alloc: Global, sig: &Signature, name: &[u8]) -> Result<Tree, CommandError>
-    ensures value { Comes formula_of (truth_named sig.now (symbol_of sig.now name.now)) result }
-{
-    match symbol_named(sig, name) {
-        Some(Symbol::Fun(f)) => truth_of(
-            sig.fun_args(f),
-            sig.fun_result(f),
-            Tree::Apply(f, Vec::new(alloc)),
-        ),
-        Some(Symbol::Def(d)) => truth_of(
-            sig.def_args(d),
-            sig.def_result(d),
-            Tree::Def(d, Vec::new(alloc)),
-        ),
-        Some(Symbol::Ctor(_))
-        | Some(Symbol::Sel(_))
-        | Some(Symbol::GenCtor(_, _))
-        | Some(Symbol::GenSel(_, _, _))
-        | None => Err(CommandError::Refused(UNKNOWN_SYMBOL)),
-    }
-}
-
-// The formula, where there are no arguments and the sort is Bool.
-fn truth_of(args: &[SortId], sort: SortId, tree: Tree) -> Result<Tree, CommandError>
-    ensures value { (name : List ℕ) → Comes formula_of (truth_of (formula_of tree) (Some (record { name = name; args = args.now; result = sort }))) result }
-{
-    if !args.is_empty() {
-        return Err(CommandError::Refused(WRONG_COUNT));
-    }
-    if !is_sort(sort, BOOL) {
-        return Err(CommandError::Refused(WRONG_SORT));
-    }
-    Ok(tree)
-}
-
-// The formula, negated or not.
-fn signed(alloc: Global, negated: bool, tree: Tree) -> Result<Tree, CommandError>
-    ensures value { IfOk result (λ t. formula_of t ≡ signed negated (formula_of tree)) }
-    ensures err { OnErr result (result ≡ Err CommandError.NoMemory) }
-{
-    if negated {
-        return Ok(Tree::Not(Box::new(alloc, tree)?));
-    }
-    Ok(tree)
 }
 
 // How the expression is written.

@@ -10,6 +10,10 @@
 //! **All levels or none.** A `pop` of more levels than there are removes none, and a `push` of more than there may be adds
 //! none. The outermost level is counted neither in the limit nor in `:assertion-stack-levels`.
 //!
+//! **Assumptions have a level of their own.** The sorts that they need are created at it. After the check the level is taken back,
+//! with these sorts, or without them where the check is refused or runs out of memory. It does not count towards the limit of
+//! levels.
+//!
 //! **Terms of `get-value`.** They are compiled into the table of the assertions and cut off again, so error 20 counts both. A
 //! term may have any sort and need not occur in an assertion: the model says what it is.
 #![tactic(auto)]

@@ -4,12 +4,12 @@ ghost use Rattle.ct_sexpr.specs.View.{expression_of};
 ghost use Rattle.ct_sorts.specs.Declarations.{Declarations, with_function};
 ghost use Rattle.ct_formulas.specs.TreeFormula.{formula_of};
 ghost use Rattle.ct_eval.specs.Interpretation.{IsProper};
-ghost use Rattle.ct_command.specs.Seen.{bytes_seen, all_seen, literal_seen, named_seen, head_seen, body_seen};
-ghost use Rattle.ct_stack.specs.Levels.{pushed_by, popped, popped_by, emptied, left_by, left_emptied, IsCutTo};
+ghost use Rattle.ct_command.specs.Seen.{bytes_seen, all_seen, named_seen, head_seen, body_seen};
+ghost use Rattle.ct_stack.specs.Levels.{pushed, pushed_by, popped, popped_by, emptied, left_by, left_emptied, IsCutTo};
 ghost use Rattle.ct_stack.specs.Stack.{first_stack, in_force, cores, declaring, in_context, asserting_as, defined_in};
-ghost use Rattle.ct_stack.specs.Outcomes.{Gives, GivesNeeding, Comes};
+ghost use Rattle.ct_stack.specs.Outcomes.{Gives, GivesNeeding};
 ghost use Rattle.ct_stack.specs.Elaborations.{with_free, IsWithTypes, synonym_body, with_synonym_of, declared_function, defined_function, asserted_formula};
-ghost use Rattle.ct_stack.specs.Assuming.{assumptions, assuming, with_assumed, assumptions_seen, list_seen, IsTruth};
+ghost use Rattle.ct_stack.specs.Assuming.{Assumes, RefusesToAssume, assuming, with_assumed, assumptions_seen, list_seen, IsTruth};
 ghost use Rattle.ct_stack.specs.Numbers.{too_many_terms};
 ghost use Rattle.ct_stack.specs.Refusal.{over, HasManyTerms, IsSynonymRefusal, IsSortRefusal, IsTypesRefusal, IsFunctionRefusal, IsDefinitionRefusal, IsAssertionRefusal, IsTermsRefusal, IsPushRefusal, IsPopRefusal};
 ghost use Rattle.ct_stack.specs.Held.{context_in, as_one, IsSoundLevel, IsHeld};
@@ -29,7 +29,7 @@ use crate::terms::assert_needing;
 use crate::theorems::stack_theorems;
 use crate::value::values_text;
 use ct_check::Scope;
-use ct_command::{Body, CommandError, Family, Literal, Named, SortHead};
+use ct_command::{Body, CommandError, Family, Named, SortHead};
 use ct_eval::Interp;
 use ct_formulas::Tree;
 use ct_sexpr::Sexpr;
@@ -272,17 +272,34 @@ impl AssertionStack {
         done
     }
 
-    /// What these literals assume, in order (SMT-LIB 2.7, section 4.2.5). Each is a constant or a definition that is Boolean and takes
-    /// no arguments, or its negation.
+    /// Begins a level at which these terms are assumed, and gives what they assume, in order (SMT-LIB 2.7, section 4.2.5). They are
+    /// elaborated as for an assertion, and each is to be Bool (23). The sorts that they need are declared at the level, at which
+    /// nothing is asserted; `end_assuming` takes it back.
     pub fn assume(
-        &self,
+        &mut self,
         alloc: Global,
-        literals: &[Literal<'_>],
+        terms: &[Sexpr],
     ) -> Result<Vec<Assumption>, CommandError>
-        ensures value { Comes list_seen (assumptions self.now.top.context.declarations (map literal_seen literals.now)) result }
-        ensures sorted { IfOk result (λ assumed. All (IsTruth self.now.top.context.declarations) assumed.items) }
+        ensures ok { IfOk result (λ assumed. Assumes self.old (all_seen terms.now) (pushed self.old) self.new (list_seen assumed)) }
+        ensures refused { (n : ℕ) → IsErrOf result (CommandError.Refused n) → RefusesToAssume self.old (all_seen terms.now) n }
+        ensures sorted { IfOk result (λ assumed. All (IsTruth self.new.top.context.declarations) assumed.items) }
+        ensures unchanged { OnErr result (self.new ≡ self.old) }
     {
-        assumptions(alloc, &self.scope, literals)
+        self.add_levels(1)?;
+        match self.assume_here(alloc, terms) {
+            Ok(assumed) => Ok(assumed),
+            Err(error) => {
+                self.leave_one(false);
+                Err(error)
+            }
+        }
+    }
+
+    /// Takes the innermost level back, with the sorts that were declared at it, or without these.
+    pub fn end_assuming(&mut self, keeps_sorts: bool)
+        ensures ended { self.new ≡ popped keeps_sorts self.old }
+    {
+        self.leave_one(keeps_sorts);
     }
 
     /// A table of the core terms of the assertions in force and of these assumptions, with their subterms and no others, and the
@@ -337,17 +354,10 @@ impl AssertionStack {
         ensures refused { (k : ℕ) → IsErrOf result (CommandError.Refused k) → IsPushRefusal self.old n k }
         ensures unchanged { OnErr result (self.new ≡ self.old) }
     {
-        stack_theorems();
-        self.scope.sig.sorts();
         if !has_room(self.levels.len(), n) {
             return Err(CommandError::Refused(TOO_MANY_LEVELS));
         }
-        let count = n as usize;
-        self.levels.reserve(count)?;
-        let declared = self.scope.sig.mark();
-        let asserts = self.asserts.len();
-        let terms = self.table.len();
-        put_marks(&mut self.levels, &declared, asserts, terms, count);
+        self.add_levels(n as usize)?;
         Ok(())
     }
 
@@ -443,6 +453,39 @@ impl AssertionStack {
         let levels = self.levels.as_slice();
         let asserts = self.asserts.as_slice();
         is_start(levels, asserts, &declared, &self.first)
+    }
+
+    // So many levels more, with nothing asserted at them.
+    fn add_levels(&mut self, count: usize) -> Result<(), AllocError>
+        ensures pushed { OnOk result (self.new ≡ pushed_by count self.old) }
+        ensures unchanged { OnErr result (self.new ≡ self.old) }
+    {
+        stack_theorems();
+        self.scope.sig.sorts();
+        self.levels.reserve(count)?;
+        let declared = self.scope.sig.mark();
+        let asserts = self.asserts.len();
+        let terms = self.table.len();
+        put_marks(&mut self.levels, &declared, asserts, terms, count);
+        Ok(())
+    }
+
+    // What these terms assume, with the sorts that they need.
+    fn assume_here(
+        &mut self,
+        alloc: Global,
+        terms: &[Sexpr],
+    ) -> Result<Vec<Assumption>, CommandError>
+        ensures ok { IfOk result (λ assumed. Assumes self.old (all_seen terms.now) self.old self.new (list_seen assumed)) }
+        ensures refused { (n : ℕ) → IsErrOf result (CommandError.Refused n) → RefusesToAssume self.old (all_seen terms.now) n }
+        ensures sorted { IfOk result (λ assumed. All (IsTruth self.new.top.context.declarations) assumed.items) }
+        ensures unchanged { OnErr result (self.new ≡ self.old) }
+    {
+        stack_theorems();
+        self.scope.sig.sorts();
+        let assumed = assumptions(alloc, &mut self.scope, terms);
+        self.scope.sig.sorts();
+        assumed
     }
 
     // So many levels fewer.

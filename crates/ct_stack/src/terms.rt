@@ -11,7 +11,7 @@ ghost use Rattle.ct_formulas.specs.TreeFormula.{formula_of};
 ghost use Rattle.ct_compile.specs.Effect.{IsPrefix, Stands as Stood};
 ghost use Rattle.ct_stack.specs.Numbers.{too_many_terms};
 ghost use Rattle.ct_stack.specs.Stack.{core, cores};
-ghost use Rattle.ct_stack.specs.Elaborations.{asserted_formula};
+ghost use Rattle.ct_stack.specs.Elaborations.{boolean_formula, asserted_formula};
 ghost use Rattle.ct_names.specs.Needs.{ComesTo};
 ghost use Rattle.ct_stack.specs.Outcomes.{GivesNeeding};
 ghost use Rattle.ct_command.specs.Seen.{bytes_seen};
@@ -36,14 +36,16 @@ const NOT_BOOLEAN: u16 = 24;
 /// The number of the error of too many core terms.
 const TOO_MANY_TERMS: u16 = 20;
 
-/// The formula that is asserted, which is Boolean.
-pub(crate) fn asserted_formula(
+/// The formula of a term that is to be Boolean; a term of another sort is refused with this number. After an error sorts may have come
+/// into the list.
+pub(crate) fn boolean_formula(
     alloc: Global,
     scope: &mut Scope,
     expr: &Sexpr,
+    otherwise: u16,
 ) -> Result<Tree, CommandError>
-    ensures ok { IfOk result (λ t. ComesTo (λ d. asserted_formula d (expression_of expr.now)) scope.old.sig scope.new.sig (Ok (formula_of t))) }
-    ensures refused { (n : ℕ) → IsErrOf result (CommandError.Refused n) → ComesTo (λ d. asserted_formula d (expression_of expr.now)) scope.old.sig scope.new.sig (Err n) }
+    ensures ok { IfOk result (λ t. ComesTo (λ d. boolean_formula otherwise d (expression_of expr.now)) scope.old.sig scope.new.sig (Ok (formula_of t))) }
+    ensures refused { (n : ℕ) → IsErrOf result (CommandError.Refused n) → ComesTo (λ d. boolean_formula otherwise d (expression_of expr.now)) scope.old.sig scope.new.sig (Err n) }
     ensures sorted { IfOk result (λ t. IsSorted scope.new.sig [] (formula_of t) bool_sort) }
     ensures grown { Extends scope.new.sig scope.old.sig }
     ensures bodies { scope.new.bodies ≡ scope.old.bodies }
@@ -52,7 +54,7 @@ pub(crate) fn asserted_formula(
     let (tree, sort) = term_of(alloc, scope, &[], expr)?;
     scope.sig.sorts();
     if !is_sort(sort, BOOL) {
-        return Err(CommandError::Refused(NOT_BOOLEAN));
+        return Err(CommandError::Refused(otherwise));
     }
     Ok(tree)
 }
@@ -85,7 +87,7 @@ pub(crate) fn assert_needing(
 {
     stack_theorems();
     scope.sig.sorts();
-    let formula = asserted_formula(alloc, scope, expr)?;
+    let formula = boolean_formula(alloc, scope, expr, NOT_BOOLEAN)?;
     scope.sig.sorts();
     let tree = define_label(alloc, scope, label, formula)?;
     scope.sig.sorts();

@@ -1,19 +1,22 @@
 -- Checks, and questions about what the last verdict left.
-use Rattle.std.proofs.Common.{◌≡◌, ◌∙◌, ℕ, List, [], ◌∷◌, ◌++◌, Option, None, Some, Ok, refl, sym, ap, subst, inl, inr}
+use Rattle.std.proofs.Common.{◌≡◌, ◌∙◌, ℕ, List, [], ◌∷◌, ◌++◌, All, Option, None, Some, Ok, refl, sym, ap, subst, inl, inr}
 use Rattle.std.specs.Global.{Vec}
 use Rattle.std.proofs.lemmas.Option.{none-some}
 use Rattle.ct_sexpr.specs.Expression.{Expression}
+use Rattle.ct_sorts.specs.Declarations.{Declarations}
+use Rattle.ct_kept.specs.Kept.{Stored}
+use Rattle.ct_engine.specs.Keeping.{HasKept}
 use Rattle.ct_eval.specs.declared.interp.Interp.{Interp}
 use Rattle.ct_log.specs.Recorded.{Derived}
 use Rattle.ct_model.specs.ModelText.{IsModelText}
 use Rattle.ct_log_text.specs.Written.{expression_of_record, text_of}
-use Rattle.ct_names.specs.Outcome.{Outcome}
-use Rattle.ct_command.specs.Command.{Command, Literal, check_sat, check_sat_assuming, get_model, get_value, get_proof}
+use Rattle.ct_command.specs.Command.{Command, check_sat, check_sat_assuming, get_model, get_value, get_proof}
 use Rattle.ct_engine.specs.declared.verdict.Verdict.{Verdict}
-use Rattle.ct_stack.specs.Stack.{Stack, in_force, cores}
+use Rattle.ct_stack.specs.Stack.{Stack, in_force, cores, declaring}
 use Rattle.ct_stack.specs.declared.assuming.Assumption.{Assumption as Assumed}
-use Rattle.ct_stack.specs.Assuming.{Assumption, assumptions, assuming, assumptions_seen}
-use Rattle.ct_stack.proofs.StepLemmas.{accepted_value, given as given_value}
+use Rattle.ct_stack.specs.Assuming.{Assumption, assuming, assumptions_seen, IsTruth}
+use Rattle.ct_stack.specs.Numbers.{too_many_terms}
+use Rattle.ct_stack.proofs.AssumingLemmas.{truths_seen}
 use Rattle.ct_stack.specs.Refusal.{IsTermsRefusal}
 use Rattle.ct_stack.specs.Values.{AreValues}
 use Rattle.ct_step.specs.declared.answer.Answer.{Answer}
@@ -21,14 +24,17 @@ use Rattle.ct_step.specs.declared.state.Asked.{Asked}
 use Rattle.ct_step.specs.declared.state.SessionState.{SessionState}
 use Rattle.ct_step.specs.declared.options.Options.{Options}
 use Rattle.ct_step.specs.Options.{budget}
-use Rattle.ct_step.specs.State.{State, Kept, model_kept, derivation_kept}
+use Rattle.ct_step.specs.State.{State, Kept, with_declarations, model_kept, derivation_kept}
 use Rattle.ct_step.specs.Evidence.{response_of, of_verdict, followed_by}
-use Rattle.ct_step.specs.Refusal.{IsRefusal, IsCheckRefusal, IsTooLarge}
+use Rattle.ct_step.specs.Refusal.{IsRefusal, IsCheckRefusal, IsAssumingRefusal, IsTooLarge}
 use Rattle.ct_step.specs.Step.{Does, OfKept, said, decided, word_of}
-use Rattle.ct_step.specs.Done.{IsAnswer, Performs, IsSame, state_of, channel_in, evidence_of, kept_of}
+use Rattle.ct_step.specs.Done.{IsAnswer, Performs, IsSame, IsSound, state_of, channel_in, evidence_of, kept_of}
 use Rattle.ct_step.specs.Verdict.{ComesTo}
+use Rattle.ct_step.specs.Assumed.{IsDecidedAssuming}
+use Rattle.ct_step.specs.Numbers.{closure_too_large}
+use Rattle.ct_step.specs.Store.{Stores}
 use Rattle.ct_step.proofs.EvidenceLemmas.{both_same, nothing_later}
-use Rattle.ct_step.proofs.SoundLemmas.{same_state}
+use Rattle.ct_step.proofs.SoundLemmas.{same_state, decided_sound}
 
 -- a check has given a verdict
 module _ (old new : SessionState) (number : ℕ) (v : Verdict) (assumed : Vec Assumed) (numbered : Option ℕ) (a : Answer) (same_stack : new.stack ≡ old.stack) (same_labels : new.labels.items ≡ old.labels.items) (same_options : new.options ≡ old.options) (same_channel : new.diagnostic_output ≡ old.diagnostic_output) (given : new.responses.items ≡ old.responses.items ++ response_of v ∷ []) (last : new.last ≡ Some v) (same_shrunk : new.shrunk ≡ old.shrunk) (kept : new.kept ≡ Some (record { assumed = assumed; number = numbered })) (answer : (s : State) → IsAnswer (said s (word_of v)) a) where
@@ -63,14 +69,52 @@ module _ (old new : SessionState) (number : ℕ) (v : Verdict) (assumed : Vec As
       decides check_sat accepted
       (v, right, ap (λ (n : Option ℕ). decided (state_of old) n (assumptions_seen assumed.items) v) own ∙ ap (λ (as_held : List Assumed). decided (state_of old) (Some number) (assumptions_seen as_held) v) none)
 
-  -- and with what these literals assume
-  pub checked_assuming : (ls : List Literal) → numbered ≡ None → assumptions old.stack.top.context.declarations ls ≡ Ok (assumptions_seen assumed.items) → ComesTo old.stack.top.context (assuming old.stack (assumptions_seen assumed.items)) (budget old.options) v → ((n : ℕ) → IsTooLarge old.stack (assumptions_seen assumed.items) n → ⊥) → Performs old number (check_sat_assuming ls) new a
-  checked_assuming ls unnumbered read right accepted =
-      let outcome : Outcome (List Assumption) = assumptions old.stack.top.context.declarations ls in
-      let held : List Assumption = assumptions_seen assumed.items in
-      decides (check_sat_assuming ls) (accepted_value outcome (IsTooLarge old.stack) held read accepted)
-      (given_value outcome (λ xs. (w : Verdict) × ComesTo old.stack.top.context (assuming old.stack xs) (budget old.options) w × (decided (state_of old) numbered held v ≡ decided (state_of old) None xs w)) held read
-      (v, right, ap (λ (n : Option ℕ). decided (state_of old) n held v) unnumbered))
+-- a check has given a verdict on the assertions in force with what these terms assume
+module _ (old new : SessionState) (ts : List Expression) (v : Verdict) (assumed : Vec Assumed) (a : Answer) (is : IsDecidedAssuming old.stack ts (budget old.options) new.stack assumed.items v) (same_labels : new.labels.items ≡ old.labels.items) (same_options : new.options ≡ old.options) (same_channel : new.diagnostic_output ≡ old.diagnostic_output) (given : new.responses.items ≡ old.responses.items ++ response_of v ∷ []) (last : new.last ≡ Some v) (same_shrunk : new.shrunk ≡ old.shrunk) (kept : new.kept ≡ Some (record { assumed = assumed; number = None })) (answer : (s : State) → IsAnswer (said s (word_of v)) a) where
+  -- the sorts that the terms need, and what they assume
+  abbrev later : Declarations
+  later = is.assumes.later
+
+  abbrev held : List Assumption
+  held = assumptions_seen assumed.items
+
+  -- the state with these sorts
+  abbrev with_sorts : SessionState
+  with_sorts = record old { stack = declaring old.stack later }
+
+  new_state : state_of new ≡ (decided (with_declarations (state_of old) later) None held v).state
+  new_state = given_state with_sorts new 0 v assumed None a is.assumes.stack_is same_labels same_options same_channel given last same_shrunk kept answer
+
+  right : ComesTo (declaring old.stack later).top.context (assuming (declaring old.stack later) held) (budget old.options) v
+  right = subst (λ (s : Stack). ComesTo s.top.context (assuming s held) (budget old.options) v) is.assumes.stack_is is.right
+
+  pub checked_assuming : (number : ℕ) → ((n : ℕ) → IsAssumingRefusal old.stack ts n → ⊥) → Performs old number (check_sat_assuming ts) new a
+  checked_assuming number accepted =
+      record {
+        effect = decided (with_declarations (state_of old) later) None held v;
+        accepted = (accepted, (later, held, is.assumes.comes, (v, right, refl)));
+        state = new_state;
+        given = given_evidence with_sorts new number v assumed None a is.assumes.stack_is same_labels same_options same_channel given last same_shrunk kept answer;
+        answer = given_answer with_sorts new number v assumed None a is.assumes.stack_is same_labels same_options same_channel given last same_shrunk kept answer (with_declarations (state_of old) later);
+      }
+
+  pub sound_assuming : IsSound (state_of new)
+  sound_assuming =
+      let fits : (n : ℕ) → IsTooLarge (declaring old.stack later) held n → ⊥ = subst (λ (s : Stack). (n : ℕ) → IsTooLarge s held n → ⊥) is.assumes.stack_is is.fits in
+      let sorted = truths_seen later assumed.items (subst (λ (s : Stack). All (IsTruth s.top.context.declarations) assumed.items) is.assumes.stack_is is.sorted) in
+      subst IsSound (sym new_state)
+      (decided_sound (with_declarations (state_of old) later) held None (budget old.options) v sorted
+      (λ many. fits closure_too_large (inr (λ more. fits too_many_terms (inl (refl, more)), inl (refl, many)))) right.right)
+
+  -- the store is what the check made of it
+  pub stored_assuming : (before after : Stored) → HasKept new.stack.top.context.declarations before after v → Stores (state_of old) (check_sat_assuming ts) new.last before after
+  stored_assuming before after h = (
+    later,
+    held,
+    is.assumes.comes,
+    subst (λ (o : Option Verdict). OfKept o (HasKept later before after)) (sym last)
+        (subst (λ (s : Stack). HasKept s.top.context.declarations before after v) is.assumes.stack_is h),
+  )
 
 module _ (old : SessionState) where
   abbrev kept : Option Kept

@@ -1,5 +1,5 @@
 -- What a check of the core terms in a table says of the stack that holds them.
-use Rattle.std.proofs.Common.{◌≡◌, ℕ, suc, ◌≤◌, ◌^◌, List, ◌++◌, Contains, refl, sym, subst, inl, inr}
+use Rattle.std.proofs.Common.{◌≡◌, ℕ, suc, ◌≤◌, ◌^◌, List, ◌++◌, Contains, Result, Ok, Err, OnOk, IsErrOf, refl, sym, subst, inl, inr}
 use Rattle.ct_sorts.specs.Declarations.{Declarations}
 use Rattle.ct_sorts.specs.Consistent.{IsConsistent}
 use Rattle.ct_terms.specs.declared.ids.TermId.{TermId}
@@ -7,6 +7,8 @@ use Rattle.ct_terms.specs.Terms.{Terms, AreSorted}
 use Rattle.ct_terms.specs.CoreTree.{CoreTree, subtrees, term_at}
 use Rattle.ct_closure.specs.Closed.{HasMoreThan, HasVariables, most_closure_terms, truth_trees}
 use Rattle.ct_closure.specs.ClosedTable.{AreSubtermsOf, terms_at}
+use Rattle.ct_command.specs.declared.error.CommandError.{CommandError}
+use Rattle.ct_command.specs.declared.error.CommandError.TheVariants.{Refused}
 use Rattle.ct_engine.specs.declared.verdict.Verdict.{Verdict}
 use Rattle.ct_engine.specs.Verdict.{IsVerdict, IsDecisive}
 use Rattle.ct_stack.specs.Stack.{Stack, in_force, cores}
@@ -97,3 +99,11 @@ module _ (s : Stack) (assumed : List Assumption) (d : Declarations) (table : Ter
             (subst (λ (rs : List CoreTree). HasVariables s.top.context.declarations rs variables) (sym held.in_table.stand) has))
             enough;
       }
+
+  -- where the closure is made
+  pub fits_of : {T E : Type 0} (r : Result T E) → (HasManyTerms (cores s.top.context (assuming s assumed)) → ⊥) → OnOk r (HasMoreThan d (terms_at table numbers) most_closure_terms → ⊥) → OnOk r ((n : ℕ) → IsTooLarge s assumed n → ⊥)
+  fits_of (Ok x) few fits = assumed_fits few fits
+  fits_of (Err e) few fits = tt
+
+  pub too_large_of : {T : Type 0} (r : Result T CommandError) → (HasManyTerms (cores s.top.context (assuming s assumed)) → ⊥) → ((n : ℕ) → IsErrOf r (Refused n) → (n ≡ closure_too_large) × HasMoreThan d (terms_at table numbers) most_closure_terms) → (n : ℕ) → IsErrOf r (Refused n) → IsTooLarge s assumed n
+  too_large_of r few why n e = let h = why n e in subst (IsTooLarge s assumed) (sym h.0) (assumed_too_large few h.1)

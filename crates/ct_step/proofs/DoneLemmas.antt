@@ -11,18 +11,16 @@ use Rattle.ct_command.specs.declared.error.CommandError.TheVariants.{Refused, No
 use Rattle.ct_command.specs.declared.command.Command.{Command as ReadCommand}
 use Rattle.ct_command.specs.declared.option.Setting.{Setting}
 use Rattle.ct_command.specs.Seen.{command_seen}
-use Rattle.ct_command.specs.Command.{Command, Literal, check_sat_assuming, set_option, set_diagnostic_output, reset, exit}
+use Rattle.ct_command.specs.Command.{Command, set_option, set_diagnostic_output, reset, exit}
 use Rattle.ct_stack.specs.Stack.{Stack, first_stack, in_force, asserting_as}
-use Rattle.ct_stack.specs.declared.assuming.Assumption.{Assumption as Assumed}
-use Rattle.ct_stack.specs.Assuming.{Assumption, assumptions, assumptions_seen, list_seen}
-use Rattle.ct_stack.specs.Outcomes.{IsErrorOr, Gives, GivesNeeding, Comes}
+use Rattle.ct_stack.specs.Outcomes.{Gives, GivesNeeding}
 use Rattle.ct_step.specs.declared.answer.Answer.{Answer}
 use Rattle.ct_step.specs.declared.response.CheckResponse.{CheckResponse}
 use Rattle.ct_step.specs.declared.state.SessionState.{SessionState}
 use Rattle.ct_step.specs.declared.options.Options.{Options}
 use Rattle.ct_step.specs.Options.{first_options, with_setting, standard_error}
 use Rattle.ct_step.specs.State.{State, starting, changed, cut_back, asserted}
-use Rattle.ct_step.specs.Refusal.{IsRefusal, IsTooLarge}
+use Rattle.ct_step.specs.Refusal.{IsRefusal}
 use Rattle.ct_step.specs.Step.{Does, said, quiet, success}
 use Rattle.ct_step.specs.Done.{IsAnswer, Performs, IsSame, IsDone, state_of, channel_in, evidence_of}
 use Rattle.ct_step.proofs.EvidenceLemmas.{nothing_later}
@@ -88,18 +86,6 @@ module _ (old : SessionState) (number : ℕ) (c : Command) (accepted : (n : ℕ)
         answer = answer (state_of old);
       }
 
--- what the literals of a check assume is refused, or too large with the assertions
-pub not_assumed : (old new : SessionState) (number : ℕ) (ls : List Literal) (e : CommandError) → Comes list_seen (assumptions old.stack.top.context.declarations ls) (Err e) → IsSame old new → IsDone old number (check_sat_assuming ls) new (Err e)
-not_assumed old new number ls (Refused n) is same = (subst (λ (o : Outcome (List Assumption)). IsErrorOr o (IsTooLarge old.stack) n) (sym is) refl, same)
-not_assumed old new number ls NoMemory is same = same
-
-pub not_checked : {T : Type 0} (old new : SessionState) (number : ℕ) (ls : List Literal) (shown held : List Assumed) (e : CommandError) → shown ≡ held → assumptions old.stack.top.context.declarations ls ≡ Ok (assumptions_seen held) → ((n : ℕ) → IsErrOf {T = T} {E = CommandError} (Err e) (Refused n) → IsTooLarge old.stack (assumptions_seen shown) n) → IsSame old new → IsDone old number (check_sat_assuming ls) new (Err e)
-not_checked {T} old new number ls shown held e are read why same =
-    not_done old new number (check_sat_assuming ls) {T = T} e
-    (λ n is.
-    subst (λ (o : Outcome (List Assumption)). IsErrorOr o (IsTooLarge old.stack) n) (sym read)
-    (subst (λ (xs : List Assumed). IsTooLarge old.stack (assumptions_seen xs) n) are (why n is))) same
-
 -- where room was made alone
 pub same_responses : (old : SessionState) (responses : Vec CheckResponse) → responses.items ≡ old.responses.items → IsSame old (record old { responses = responses })
 same_responses old responses is = record { stack = refl; labels = refl; options = refl; diagnostic_output = refl; responses = is; last = refl; shrunk = refl; kept = refl }
@@ -111,6 +97,10 @@ never n none = none
 -- where the stack has not changed
 pub same_stack : (old : SessionState) (stack : Stack) → stack ≡ old.stack → IsSame old (record old { stack = stack })
 same_stack old stack is = record { stack = is; labels = refl; options = refl; diagnostic_output = refl; responses = refl; last = refl; shrunk = refl; kept = refl }
+
+-- and room was made for an answer
+pub same_within : (old : SessionState) (stack : Stack) (responses : Vec CheckResponse) → stack ≡ old.stack → responses.items ≡ old.responses.items → IsSame old (record old { stack = stack; responses = responses })
+same_within old stack responses is are = record { stack = is; labels = refl; options = refl; diagnostic_output = refl; responses = are; last = refl; shrunk = refl; kept = refl }
 
 -- nor the labels
 pub same_beside : (old : SessionState) (stack : Stack) (labels : Vec (Option (List ℕ))) → stack ≡ old.stack → labels.items ≡ old.labels.items → IsSame old (record old { stack = stack; labels = labels })

@@ -1,5 +1,5 @@
 -- What a session always holds: what is kept is of what is declared.
-use Rattle.std.proofs.Common.{◌≡◌, ◌∙◌, ℕ, Bool, true, false, List, [], All, Option, None, Some, Result, Ok, Err, refl, sym, ap, subst, inl, inr}
+use Rattle.std.proofs.Common.{◌≡◌, ◌∙◌, ℕ, Bool, true, false, true≢false, List, [], All, Option, None, Some, Result, Ok, Err, OnOk, refl, sym, ap, subst, inl, inr}
 use Rattle.std.specs.Bool.{MatchBool}
 use Rattle.std.proofs.lemmas.List.{append-nil}
 use Rattle.std.proofs.lemmas.List.Elements.{All-nil}
@@ -19,9 +19,8 @@ use Rattle.ct_command.specs.Command.{Command, set_logic, set_option, set_diagnos
 use Rattle.ct_engine.specs.declared.verdict.Verdict.{Verdict}
 use Rattle.ct_engine.specs.declared.verdict.Verdict.TheVariants.{Sat, Unsat, Unknown}
 use Rattle.ct_stack.specs.Stack.{Stack, Context, in_force, cores, declaring, in_context, defined_in}
-use Rattle.ct_stack.specs.Assuming.{Assumption, assumptions}
-use Rattle.ct_stack.specs.Outcomes.{Gives, GivesNeeding, IsErrorOr}
-use Rattle.ct_stack.specs.Numbers.{too_many_terms}
+use Rattle.ct_stack.specs.Assuming.{Assumption}
+use Rattle.ct_stack.specs.Outcomes.{Gives, GivesNeeding}
 use Rattle.ct_stack.specs.Elaborations.{synonym_body, with_synonym_of, declared_function, defined_function, asserted_formula}
 use Rattle.ct_stack.specs.Refusal.{over}
 use Rattle.ct_stack.specs.Values.{AreValues}
@@ -39,12 +38,11 @@ use Rattle.ct_step.specs.declared.cores.Members.{Members}
 use Rattle.ct_step.specs.declared.cores.Members.TheVariants as members
 use Rattle.ct_step.specs.Evidence.{Evidence, no_evidence, of_core}
 use Rattle.ct_step.specs.Cores.{IsShrunkTo, core_text}
-use Rattle.ct_step.specs.Refusal.{IsRefusal, IsTooLarge}
+use Rattle.ct_step.specs.Refusal.{IsRefusal}
 use Rattle.ct_step.specs.State.{State, Kept, Refuted, context_of, declared, changed, asserted, model_kept, derivation_kept, refuted_kept, assuming_kept, asked}
 use Rattle.ct_step.specs.Step.{CommandEffect, Does, OfKept, PrintsCore, quiet, said, decided}
 use Rattle.ct_step.specs.Done.{KeepsOwn, WasAsked, IsSound, IsSame, IsDone, state_of, channel_in, kept_of}
 use Rattle.ct_step.specs.Verdict.{ComesTo, Refutes, IsRight}
-use Rattle.ct_stack.proofs.AssumingLemmas.{assumptions_sorted}
 
 -- where nothing is kept
 pub nothing_kept : (d : Declarations) → KeepsOwn d None
@@ -90,7 +88,7 @@ module _ (c : Context) (asserts : List Formula) (budget : ℕ) (assumed : List A
 abbrev keeps : State → List Assumption → Option ℕ → Verdict → State
 keeps s assumed number v = record s { kept = Some (keeping assumed number v) }
 
-decided_sound : (s : State) (assumed : List Assumption) (number : Option ℕ) (budget : ℕ) (v : Verdict) → All (λ (a : Assumption). IsSorted (declared s) [] a.formula bool_sort) assumed → (HasMoreThan (declared s) (cores (context_of s) (asked s assumed)) most_closure_terms → ⊥) → IsRight (context_of s) (asked s assumed) budget v → IsSound (keeps s assumed number v)
+pub decided_sound : (s : State) (assumed : List Assumption) (number : Option ℕ) (budget : ℕ) (v : Verdict) → All (λ (a : Assumption). IsSorted (declared s) [] a.formula bool_sort) assumed → (HasMoreThan (declared s) (cores (context_of s) (asked s assumed)) most_closure_terms → ⊥) → IsRight (context_of s) (asked s assumed) budget v → IsSound (keeps s assumed number v)
 decided_sound s assumed number budget v sorted fits right =
     record {
       own = right_kept (context_of s) (asked s assumed) budget assumed number v right;
@@ -144,13 +142,6 @@ module _ (s : State) (e : CommandEffect) where
       (λ many. accepted closure_too_large (inl (refl, subst (λ (ts : List Formula). HasMoreThan (declared s) (cores (context_of s) ts) most_closure_terms) alone many)))
       (subst (λ (ts : List Formula). IsRight (context_of s) ts (budget s.options) v) (sym alone) comes.right))
 
-  assumed_checked : (o : Outcome (List Assumption)) → ((assumed : List Assumption) → o ≡ Ok assumed → All (λ (a : Assumption). IsSorted (declared s) [] a.formula bool_sort) assumed) → ((n : ℕ) → IsErrorOr o (IsTooLarge s.stack) n → ⊥) → Gives o (λ assumed. (v : Verdict) × ComesTo (context_of s) (asked s assumed) (budget s.options) v × (e ≡ decided s None assumed v)) → IsSound e.state
-  assumed_checked (Ok assumed) sorted accepted (v, comes, is) =
-      left (decided s None assumed v) is
-      (decided_sound s assumed None (budget s.options) v (sorted assumed refl)
-      (λ many. accepted closure_too_large (inr (λ more. accepted too_many_terms (inl (refl, more)), inl (refl, many)))) comes.right)
-  assumed_checked (Err n) sorted accepted h = absurd h
-
 -- a core that is printed: the effect is that of a text, and of what is kept of it
 pub prints : (s : State) (m : Members) (refuted : Refuted) (e : CommandEffect) (Q : Type 0) → ((text : List ℕ) (kept : Evidence) → e ≡ record (said s text) { evidence = kept } → Q) → PrintsCore s m refuted e → Q
 prints s m refuted e Q more (places, core, printed) = by s.options.minimal_unsat_cores printed
@@ -164,34 +155,39 @@ prints s m refuted e Q more (places, core, printed) = by s.options.minimal_unsat
     by true (shrunk, to, is) = more (core_text m s refuted.assumed shrunk.core.places.items) (of_core shrunk) is
     by false is = more (core_text m s refuted.assumed places) no_evidence is
 
--- an accepted command leaves what a session holds
-pub sound_after : (s : State) (number : ℕ) (c : Command) (e : CommandEffect) → IsSound s → ((n : ℕ) → IsRefusal s c n → ⊥) → Does s number c e → IsSound e.state
-sound_after s number (set_logic name) e sound accepted is = left s e _ is sound
-sound_after s number (set_option setting) e sound accepted is = left s e (quiet (record s { options = with_setting s.options setting })) is (other_options s (with_setting s.options setting) sound)
-sound_after s number (set_diagnostic_output text) e sound accepted is = left s e (quiet (record s { diagnostic_output = written text })) is (other_channel s (written text) sound)
-sound_after s number (get_option option) e sound accepted is = left s e _ is sound
-sound_after s number set_info e sound accepted is = left s e _ is sound
-sound_after s number (get_info info) e sound accepted is = left s e _ is sound
-sound_after s number (declare_sort name params) e sound accepted is = change s e _ is
-sound_after s number (define_sort name params body) e sound accepted is = only (synonym_body (declared s) params body) (λ sort. e ≡ quiet (changed s (declaring s.stack (with_synonym_of (declared s) name params sort)))) (IsSound e.state) (λ sort h. change s e (declaring s.stack (with_synonym_of (declared s) name params sort)) h) is
-sound_after s number (declare_block family heads bodies) e sound accepted is = change s e (declaring s.stack is.0) is.2
-sound_after s number (declare_fun name args sort) e sound accepted is = only_needing (λ d. declared_function d name args sort) (declared s) (λ later f. e ≡ quiet (changed s (declaring s.stack (with_function later f)))) (IsSound e.state) (λ later f comes h. change s e (declaring s.stack (with_function later f)) h) is
-sound_after s number (define_fun name params sort t) e sound accepted is = only_needing (λ d. defined_function d name params sort t) (declared s) (λ later f. e ≡ quiet (changed s (in_context s.stack (defined_in (over (context_of s) later) f)))) (IsSound e.state) (λ later f comes h. change s e (in_context s.stack (defined_in (over (context_of s) later) f)) h) is
-sound_after s number (assert t label) e sound accepted is = only_needing (λ d. asserted_formula d t) (declared s) (λ later formula. e ≡ quiet (asserted s (declaring s.stack later) label formula)) (IsSound e.state) (λ later formula comes h. left s e (quiet (asserted s (declaring s.stack later) label formula)) h (unkept (asserted s (declaring s.stack later) label formula) refl)) is
-sound_after s number check_sat e sound accepted is = checked s e number accepted is
-sound_after s number (check_sat_assuming ls) e sound accepted is = assumed_checked s e (assumptions (declared s) ls) (assumptions_sorted (declared s) ls) accepted is
-sound_after s number (push n) e sound accepted is = change s e _ is
-sound_after s number (pop n) e sound accepted is = left s e _ is (unkept _ refl)
-sound_after s number reset_assertions e sound accepted is = left s e _ is (unkept _ refl)
-sound_after s number reset e sound accepted is = left s e _ is (unkept _ refl)
-sound_after s number get_model e sound accepted is = only_of (model_kept s.kept) (λ i. (text : List ℕ) × IsModelText (declared s) i text × (e ≡ said s text)) (IsSound e.state) (λ i h. left s e (said s h.0) h.2 sound) is
-sound_after s number (get_value ts) e sound accepted is = only_of (model_kept s.kept) (λ i. (text : List ℕ) × AreValues (context_of s) i ts text × (e ≡ said s text)) (IsSound e.state) (λ i h. left s e (said s h.0) h.2 sound) is
-sound_after s number get_proof e sound accepted is = only_of (derivation_kept s.kept) (λ p. e ≡ said s (text_of (expression_of_record (declared s) p.0 p.1.rec))) (IsSound e.state) (λ p h. left s e (said s (text_of (expression_of_record (declared s) p.0 p.1.rec))) h sound) is
-sound_after s number get_unsat_core e sound accepted is = only_of (refuted_kept s.kept) (λ refuted. PrintsCore s members.Names refuted e) (IsSound e.state) (λ refuted h. prints s members.Names refuted e (IsSound e.state) (λ text kept printed. left s e (record (said s text) { evidence = kept }) printed sound) h) is
-sound_after s number get_unsat_assumptions e sound accepted is = only_of (assuming_kept s.kept) (λ refuted. PrintsCore s members.Assumptions refuted e) (IsSound e.state) (λ refuted h. prints s members.Assumptions refuted e (IsSound e.state) (λ text kept printed. left s e (record (said s text) { evidence = kept }) printed sound) h) is
-sound_after s number (echo x) e sound accepted is = left s e _ is sound
-sound_after s number exit e sound accepted is = left s e _ is sound
-sound_after s number unsupported e sound accepted is = left s e _ is sound
+-- the command is a check with assumptions
+abbrev pub is_assuming : Command → Bool
+is_assuming (check_sat_assuming ts) = true
+is_assuming c = false
+
+-- every other command that is accepted leaves what a session holds
+pub sound_after : (s : State) (number : ℕ) (c : Command) (e : CommandEffect) → is_assuming c ≡ false → IsSound s → ((n : ℕ) → IsRefusal s c n → ⊥) → Does s number c e → IsSound e.state
+sound_after s number (set_logic name) e other sound accepted is = left s e _ is sound
+sound_after s number (set_option setting) e other sound accepted is = left s e (quiet (record s { options = with_setting s.options setting })) is (other_options s (with_setting s.options setting) sound)
+sound_after s number (set_diagnostic_output text) e other sound accepted is = left s e (quiet (record s { diagnostic_output = written text })) is (other_channel s (written text) sound)
+sound_after s number (get_option option) e other sound accepted is = left s e _ is sound
+sound_after s number set_info e other sound accepted is = left s e _ is sound
+sound_after s number (get_info info) e other sound accepted is = left s e _ is sound
+sound_after s number (declare_sort name params) e other sound accepted is = change s e _ is
+sound_after s number (define_sort name params body) e other sound accepted is = only (synonym_body (declared s) params body) (λ sort. e ≡ quiet (changed s (declaring s.stack (with_synonym_of (declared s) name params sort)))) (IsSound e.state) (λ sort h. change s e (declaring s.stack (with_synonym_of (declared s) name params sort)) h) is
+sound_after s number (declare_block family heads bodies) e other sound accepted is = change s e (declaring s.stack is.0) is.2
+sound_after s number (declare_fun name args sort) e other sound accepted is = only_needing (λ d. declared_function d name args sort) (declared s) (λ later f. e ≡ quiet (changed s (declaring s.stack (with_function later f)))) (IsSound e.state) (λ later f comes h. change s e (declaring s.stack (with_function later f)) h) is
+sound_after s number (define_fun name params sort t) e other sound accepted is = only_needing (λ d. defined_function d name params sort t) (declared s) (λ later f. e ≡ quiet (changed s (in_context s.stack (defined_in (over (context_of s) later) f)))) (IsSound e.state) (λ later f comes h. change s e (in_context s.stack (defined_in (over (context_of s) later) f)) h) is
+sound_after s number (assert t label) e other sound accepted is = only_needing (λ d. asserted_formula d t) (declared s) (λ later formula. e ≡ quiet (asserted s (declaring s.stack later) label formula)) (IsSound e.state) (λ later formula comes h. left s e (quiet (asserted s (declaring s.stack later) label formula)) h (unkept (asserted s (declaring s.stack later) label formula) refl)) is
+sound_after s number check_sat e other sound accepted is = checked s e number accepted is
+sound_after s number (check_sat_assuming ts) e other sound accepted is = absurd (true≢false other)
+sound_after s number (push n) e other sound accepted is = change s e _ is
+sound_after s number (pop n) e other sound accepted is = left s e _ is (unkept _ refl)
+sound_after s number reset_assertions e other sound accepted is = left s e _ is (unkept _ refl)
+sound_after s number reset e other sound accepted is = left s e _ is (unkept _ refl)
+sound_after s number get_model e other sound accepted is = only_of (model_kept s.kept) (λ i. (text : List ℕ) × IsModelText (declared s) i text × (e ≡ said s text)) (IsSound e.state) (λ i h. left s e (said s h.0) h.2 sound) is
+sound_after s number (get_value ts) e other sound accepted is = only_of (model_kept s.kept) (λ i. (text : List ℕ) × AreValues (context_of s) i ts text × (e ≡ said s text)) (IsSound e.state) (λ i h. left s e (said s h.0) h.2 sound) is
+sound_after s number get_proof e other sound accepted is = only_of (derivation_kept s.kept) (λ p. e ≡ said s (text_of (expression_of_record (declared s) p.0 p.1.rec))) (IsSound e.state) (λ p h. left s e (said s (text_of (expression_of_record (declared s) p.0 p.1.rec))) h sound) is
+sound_after s number get_unsat_core e other sound accepted is = only_of (refuted_kept s.kept) (λ refuted. PrintsCore s members.Names refuted e) (IsSound e.state) (λ refuted h. prints s members.Names refuted e (IsSound e.state) (λ text kept printed. left s e (record (said s text) { evidence = kept }) printed sound) h) is
+sound_after s number get_unsat_assumptions e other sound accepted is = only_of (assuming_kept s.kept) (λ refuted. PrintsCore s members.Assumptions refuted e) (IsSound e.state) (λ refuted h. prints s members.Assumptions refuted e (IsSound e.state) (λ text kept printed. left s e (record (said s text) { evidence = kept }) printed sound) h) is
+sound_after s number (echo x) e other sound accepted is = left s e _ is sound
+sound_after s number exit e other sound accepted is = left s e _ is sound
+sound_after s number unsupported e other sound accepted is = left s e _ is sound
 
 -- where nothing has changed the state is the same
 pub same_state : (old new : SessionState) → IsSame old new → state_of new ≡ state_of old
@@ -204,7 +200,13 @@ same_state old new is =
     ∙ ap (λ (kept : Option Asked). record { stack = old.stack; labels = old.labels.items; options = old.options; diagnostic_output = channel_in old.diagnostic_output; kept = kept_of old.last kept }) is.kept
 
 -- whatever becomes of a command
-pub sound_still : (old new : SessionState) (number : ℕ) (c : Command) (r : Result Answer CommandError) → IsDone old number c new r → IsSound (state_of old) → IsSound (state_of new)
-sound_still old new number c (Ok a) done sound = subst IsSound (sym done.state) (sound_after (state_of old) number c done.effect sound done.accepted.0 done.accepted.1)
-sound_still old new number c (Err (Refused n)) done sound = subst IsSound (sym (same_state old new done.1)) sound
-sound_still old new number c (Err NoMemory) done sound = subst IsSound (sym (same_state old new done)) sound
+pub sound_still : (old new : SessionState) (number : ℕ) (c : Command) (r : Result Answer CommandError) → is_assuming c ≡ false → IsDone old number c new r → IsSound (state_of old) → IsSound (state_of new)
+sound_still old new number c (Ok a) other done sound = subst IsSound (sym done.state) (sound_after (state_of old) number c done.effect other sound done.accepted.0 done.accepted.1)
+sound_still old new number c (Err (Refused n)) other done sound = subst IsSound (sym (same_state old new done.1)) sound
+sound_still old new number c (Err NoMemory) other done sound = subst IsSound (sym (same_state old new done)) sound
+
+-- and so of a check with assumptions, which says so itself
+pub sound_where : (old new : SessionState) (number : ℕ) (c : Command) (r : Result Answer CommandError) → OnOk r (IsSound (state_of new)) → IsDone old number c new r → IsSound (state_of old) → IsSound (state_of new)
+sound_where old new number c (Ok a) own done sound = own
+sound_where old new number c (Err (Refused n)) own done sound = subst IsSound (sym (same_state old new done.1)) sound
+sound_where old new number c (Err NoMemory) own done sound = subst IsSound (sym (same_state old new done)) sound

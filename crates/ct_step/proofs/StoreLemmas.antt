@@ -1,5 +1,5 @@
 -- What becomes of the store by a command that leaves it alone, by one that takes declarations back, and by a check.
-use Rattle.std.proofs.Common.{◌≡◌, ◌∙◌, ℕ, zero, suc, Bool, true, false, true≢false, List, Option, None, Some, Result, Ok, Err, refl, sym, ap, subst}
+use Rattle.std.proofs.Common.{◌≡◌, ◌∙◌, ℕ, zero, suc, Bool, true, false, true≢false, List, Option, None, Some, Result, Ok, Err, OnOk, refl, sym, ap, subst}
 use Rattle.ct_sorts.specs.Declarations.{Declarations, with_function, with_definition}
 use Rattle.ct_sorts.specs.Grown.{Extends}
 use Rattle.ct_kept.specs.Kept.{Stored}
@@ -22,13 +22,13 @@ use Rattle.ct_step.specs.declared.state.SessionState.{SessionState}
 use Rattle.ct_step.specs.declared.cores.Members.TheVariants as members
 use Rattle.ct_step.specs.State.{State, context_of, declared, changed, asserted, model_kept, derivation_kept, refuted_kept, assuming_kept}
 use Rattle.ct_step.specs.Step.{CommandEffect, Does, PrintsCore, quiet, said}
-use Rattle.ct_step.specs.Done.{IsDone, state_of}
+use Rattle.ct_step.specs.Done.{IsDone, IsSound, state_of}
 use Rattle.ct_step.specs.Evidence.{Evidence}
 use Rattle.ct_step.specs.Growing.{Growing}
 use Rattle.ct_step.specs.Store.{IsStoreOf, IsSoundWith, Stores, IsStored}
 use Rattle.ct_stack.proofs.NeededLemmas.{comes_grows}
 use Rattle.ct_stack.proofs.SortLemmas.{free_extends, types_extends}
-use Rattle.ct_step.proofs.SoundLemmas.{only, only_needing, only_of, prints, same_state, sound_still}
+use Rattle.ct_step.proofs.SoundLemmas.{only, only_needing, only_of, prints, same_state, is_assuming, sound_still, sound_where}
 use Rattle.ct_step.proofs.DoneLemmas.{seen_as}
 
 -- the command leaves the store alone
@@ -48,6 +48,11 @@ stores_same s (pop n) last store rest = absurd (true≢false (sym rest))
 stores_same s reset_assertions last store rest = absurd (true≢false (sym rest))
 stores_same s reset last store rest = absurd (true≢false (sym rest))
 stores_same s c last store rest = refl
+
+-- so does no check with assumptions
+not_assuming : (c : Command) → rests c ≡ true → is_assuming c ≡ false
+not_assuming (check_sat_assuming ts) rest = absurd (true≢false (sym rest))
+not_assuming c rest = refl
 
 -- levels that are added change nothing that is declared
 pushed_context : (n : ℕ) (s : Stack) → (pushed_by n s).top.context ≡ s.top.context
@@ -72,7 +77,7 @@ module _ (g : Growing) (s : State) (e : CommandEffect) where
   printed_grown text kept is = stays (record (said s text) { evidence = kept }) is refl
 
   -- a command that leaves the store alone only adds to what is declared
-  grown_after : (number : ℕ) (c : Command) → rests c ≡ true → Does s number c e → Extends (declared e.state) (declared s)
+  pub grown_after : (number : ℕ) (c : Command) → rests c ≡ true → Does s number c e → Extends (declared e.state) (declared s)
   grown_after number (set_logic name) rest is = stays _ is refl
   grown_after number (set_option setting) rest is = stays _ is refl
   grown_after number (set_diagnostic_output text) rest is = stays _ is refl
@@ -148,17 +153,28 @@ module _ (old new : SessionState) (number : ℕ) where
         done = own_done;
         stored = stored_same (command_seen c) r store own;
         sound = record {
-          sound = sound_still old new number (command_seen c) r own_done sound.sound;
+          sound = sound_still old new number (command_seen c) r (not_assuming (command_seen c) own) own_done sound.sound;
           sorted = sorted_still g (command_seen c) r store own own_done sound.sorted;
         };
       }
 
   -- by another one
-  pub along : (r : Result Answer CommandError) (c d : ReadCommand) (before after : Stored) → IsSoundWith (state_of old) before → c ≡ d → IsDone old number (command_seen d) new r → IsStored old (command_seen d) new r before after → IsStoreOf (state_of new) after → Outcome old new number (command_seen c) r before after
-  along r c d before after sound is done stored sorted =
+  pub along : (r : Result Answer CommandError) (c d : ReadCommand) (before after : Stored) → IsSoundWith (state_of old) before → c ≡ d → is_assuming (command_seen d) ≡ false → IsDone old number (command_seen d) new r → IsStored old (command_seen d) new r before after → IsStoreOf (state_of new) after → Outcome old new number (command_seen c) r before after
+  along r c d before after sound is other done stored sorted =
+      let own_done : IsDone old number (command_seen c) new r = seen_as old new number r c d is done in
+      let own : is_assuming (command_seen c) ≡ false = ap (λ (x : ReadCommand). is_assuming (command_seen x)) is ∙ other in
+      record {
+        done = own_done;
+        stored = subst (λ (x : ReadCommand). IsStored old (command_seen x) new r before after) (sym is) stored;
+        sound = record { sound = sound_still old new number (command_seen c) r own own_done sound.sound; sorted = sorted };
+      }
+
+  -- and by a check with assumptions
+  pub assuming_along : (r : Result Answer CommandError) (c d : ReadCommand) (before after : Stored) → IsSoundWith (state_of old) before → c ≡ d → OnOk r (IsSound (state_of new)) → IsDone old number (command_seen d) new r → IsStored old (command_seen d) new r before after → IsStoreOf (state_of new) after → Outcome old new number (command_seen c) r before after
+  assuming_along r c d before after sound is own done stored sorted =
       let own_done : IsDone old number (command_seen c) new r = seen_as old new number r c d is done in
       record {
         done = own_done;
         stored = subst (λ (x : ReadCommand). IsStored old (command_seen x) new r before after) (sym is) stored;
-        sound = record { sound = sound_still old new number (command_seen c) r own_done sound.sound; sorted = sorted };
+        sound = record { sound = sound_where old new number (command_seen c) r own own_done sound.sound; sorted = sorted };
       }

@@ -11,6 +11,10 @@ use Rattle.ct_sorts.specs.Block.{IsWithBlock}
 use Rattle.ct_sorts.specs.Grown.{Extends}
 use Rattle.ct_sorts.specs.Instances.{IsWithSorts}
 use Rattle.ct_terms.specs.Terms.{Terms, AreSorted}
+use Rattle.ct_base.specs.declared.base.Base.{Base}
+use Rattle.ct_base.specs.Base.{IsBase}
+use Rattle.ct_trial.specs.declared.last_model.LastModel.{LastModel}
+use Rattle.ct_trial.specs.LastModel.{IsLastModel}
 use Rattle.ct_stack.specs.Elaborations.{with_synonym_of}
 
 pub record Growing : Type 0 where
@@ -24,3 +28,5 @@ pub record Growing : Type 0 where
   pub function : (d : Declarations) (f : Function) → Extends (with_function d f) d
   pub definition : (d : Declarations) (f : Function) → Extends (with_definition d f) d
   pub table : (later earlier : Declarations) (table : Terms) → Extends later earlier → AreSorted earlier table → AreSorted later table
+  pub bases : (d later : Declarations) (base : Base) → Extends later d → IsBase d base → IsBase later base
+  pub models : (d later : Declarations) (model : LastModel) → Extends later d → IsLastModel d model → IsLastModel later model

@@ -13,3 +13,6 @@ pub mod Printing
 pub mod Store
 pub mod Growing
 pub mod Known
+pub mod Rehearsal
+pub mod Assumed
+pub mod Cache

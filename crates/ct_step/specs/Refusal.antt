@@ -4,12 +4,11 @@ use Rattle.ct_sexpr.specs.Expression.{Expression}
 use Rattle.ct_sorts.specs.Refusals.{IsFirstCause, IsNone}
 use Rattle.ct_closure.specs.Closed.{HasMoreThan, most_closure_terms}
 use Rattle.ct_command.specs.declared.option.Setting.{Setting}
-use Rattle.ct_command.specs.Command.{Command, Literal, set_logic, set_option, set_diagnostic_output, get_option, set_info, get_info, declare_sort, define_sort, declare_block, declare_fun, define_fun, assert, check_sat, check_sat_assuming, push, pop, reset_assertions, reset, get_model, get_value, get_proof, get_unsat_core, get_unsat_assumptions, echo, exit, unsupported}
-use Rattle.ct_stack.specs.Stack.{Stack, first_stack, in_force, cores}
+use Rattle.ct_command.specs.Command.{Command, set_logic, set_option, set_diagnostic_output, get_option, set_info, get_info, declare_sort, define_sort, declare_block, declare_fun, define_fun, assert, check_sat, check_sat_assuming, push, pop, reset_assertions, reset, get_model, get_value, get_proof, get_unsat_core, get_unsat_assumptions, echo, exit, unsupported}
+use Rattle.ct_stack.specs.Stack.{Stack, first_stack, in_force, cores, declaring}
 use Rattle.ct_stack.specs.Assuming.{Assumption, assumptions, assuming}
 use Rattle.ct_stack.specs.Numbers.{too_many_terms}
-use Rattle.ct_stack.specs.Outcomes.{IsErrorOr}
-use Rattle.ct_stack.specs.Refusal.{HasManyTerms, IsSortRefusal, IsSynonymRefusal, IsTypesRefusal, IsFunctionRefusal, IsDefinitionRefusal, IsAssertionRefusal, IsTermsRefusal, IsPushRefusal, IsPopRefusal}
+use Rattle.ct_stack.specs.Refusal.{HasManyTerms, IsErrorNeeding, IsSortRefusal, IsSynonymRefusal, IsTypesRefusal, IsFunctionRefusal, IsDefinitionRefusal, IsAssertionRefusal, IsTermsRefusal, IsPushRefusal, IsPopRefusal}
 use Rattle.ct_step.specs.Logics.{IsLogic}
 use Rattle.ct_step.specs.Numbers.{closure_too_large, no_model, no_derivation, not_now, unknown_logic}
 use Rattle.ct_step.specs.Options.{sets_global}
@@ -42,9 +41,11 @@ IsTooLarge stack assumed =
     IsFirstCause too_many_terms (HasManyTerms (cores stack.top.context (assuming stack assumed)))
     (IsFirstCause closure_too_large (HasMoreThan stack.top.context.declarations (cores stack.top.context (assuming stack assumed)) most_closure_terms) IsNone)
 
--- the same with what these literals assume, of which the first error counts by place
-abbrev pub IsAssumingRefusal : Stack → List Literal → ℕ → Type 0
-IsAssumingRefusal stack literals = IsErrorOr (assumptions stack.top.context.declarations literals) (IsTooLarge stack)
+-- the same with what these terms assume, of which the first error counts by place, over the declarations that have the sorts which they
+-- need
+abbrev pub IsAssumingRefusal : Stack → List Expression → ℕ → Type 0
+IsAssumingRefusal stack ts =
+    IsErrorNeeding (λ d. assumptions d ts) stack.top.context.declarations (λ later. IsTooLarge (declaring stack later))
 
 -- what asks for the derivation
 abbrev pub IsProofRefusal : State → ℕ → Type 0
@@ -72,7 +73,7 @@ IsRefusal s (declare_fun name args sort) = IsFunctionRefusal (declared s) name a
 IsRefusal s (define_fun name params sort t) = IsDefinitionRefusal (declared s) name params sort t
 IsRefusal s (assert t label) = IsAssertionRefusal s.stack label t
 IsRefusal s check_sat = IsCheckRefusal s.stack
-IsRefusal s (check_sat_assuming ls) = IsAssumingRefusal s.stack ls
+IsRefusal s (check_sat_assuming ts) = IsAssumingRefusal s.stack ts
 IsRefusal s (push n) = IsPushRefusal s.stack n
 IsRefusal s (pop n) = IsPopRefusal s.stack n
 IsRefusal s reset_assertions = IsNone

@@ -9,7 +9,7 @@ use Rattle.ct_command.specs.declared.option.ErrorBehavior.TheVariants.{Continued
 use Rattle.ct_engine.specs.declared.verdict.Verdict.{Verdict}
 use Rattle.ct_engine.specs.declared.verdict.Verdict.TheVariants.{Sat, Unsat, Unknown}
 use Rattle.ct_formulas.specs.Formula.{Formula}
-use Rattle.ct_stack.specs.Stack.{Context, Stack, first_stack, in_force, asserting_as}
+use Rattle.ct_stack.specs.Stack.{Context, Stack, first_stack, in_force, declaring, asserting_as}
 use Rattle.ct_stack.specs.Assuming.{Assumption, assuming}
 use Rattle.ct_step.specs.declared.options.Options.{Options}
 use Rattle.ct_step.specs.Options.{first_options, standard_error}
@@ -45,6 +45,10 @@ context_of s = s.stack.top.context
 
 abbrev pub declared : State → Declarations
 declared s = (context_of s).declarations
+
+-- with these declarations
+abbrev pub with_declarations : State → Declarations → State
+with_declarations s d = record s { stack = declaring s.stack d }
 
 -- with this stack; what was answered does not stand any more
 abbrev pub changed : State → Stack → State

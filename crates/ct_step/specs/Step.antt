@@ -25,7 +25,7 @@ use Rattle.ct_step.specs.Options.{most_decisions, budget, with_setting, ends_at_
 use Rattle.ct_step.specs.declared.cores.Members.{Members}
 use Rattle.ct_step.specs.declared.cores.Members.TheVariants as members
 use Rattle.ct_step.specs.Evidence.{Evidence, no_evidence, of_verdict, of_core}
-use Rattle.ct_step.specs.State.{State, Refuted, starting, context_of, declared, changed, cut_back, asserted, model_kept, derivation_kept, refuted_kept, assuming_kept, asked}
+use Rattle.ct_step.specs.State.{State, Refuted, starting, context_of, declared, with_declarations, changed, cut_back, asserted, model_kept, derivation_kept, refuted_kept, assuming_kept, asked}
 use Rattle.ct_step.specs.Cores.{HasCore, IsShrunkTo, core_text}
 use Rattle.ct_step.specs.Infos.{info_text, unsupported_text}
 use Rattle.ct_step.specs.Refusal.{IsRefusal}
@@ -85,6 +85,10 @@ PrintsCore s members refuted e =
     × (e ≡ record (said s (core_text members s refuted.assumed shrunk.core.places.items)) { evidence = of_core shrunk }))
     (e ≡ said s (core_text members s refuted.assumed places))
 
+-- a check with these assumptions decides
+abbrev pub DecidesAssuming : State → List Assumption → CommandEffect → Type 0
+DecidesAssuming s assumed e = (v : Verdict) × ComesTo (context_of s) (asked s assumed) (budget s.options) v × (e ≡ decided s None assumed v)
+
 -- what an accepted command does, where it is the check of this number, if it is a check
 abbrev pub Does : State → ℕ → Command → CommandEffect → Type 0
 Does s number (set_logic name) e = e ≡ quiet s
@@ -104,9 +108,8 @@ Does s number (define_fun name params sort t) e =
 Does s number (assert t label) e =
     GivesNeeding (λ d. asserted_formula d t) (declared s) (λ later formula. e ≡ quiet (asserted s (declaring s.stack later) label formula))
 Does s number check_sat e = (v : Verdict) × ComesTo (context_of s) (in_force s.stack) (budget s.options) v × (e ≡ decided s (Some number) [] v)
-Does s number (check_sat_assuming ls) e =
-    Gives (assumptions (declared s) ls) (λ assumed.
-    (v : Verdict) × ComesTo (context_of s) (asked s assumed) (budget s.options) v × (e ≡ decided s None assumed v))
+Does s number (check_sat_assuming ts) e =
+    GivesNeeding (λ d. assumptions d ts) (declared s) (λ later assumed. DecidesAssuming (with_declarations s later) assumed e)
 Does s number (push n) e = e ≡ quiet (changed s (pushed_by n s.stack))
 Does s number (pop n) e = e ≡ quiet (cut_back s (popped_by s.options.global_declarations n s.stack))
 Does s number reset_assertions e = e ≡ quiet (cut_back s (emptied s.options.global_declarations s.stack))

@@ -14,7 +14,9 @@ use Rattle.ct_command.specs.Command.{Command, check_sat, check_sat_assuming, pop
 use Rattle.ct_command.specs.Reading.{Read}
 use Rattle.ct_engine.specs.declared.verdict.Verdict.{Verdict}
 use Rattle.ct_engine.specs.Keeping.{HasKept}
+use Rattle.ct_stack.specs.Assuming.{assumptions}
 use Rattle.ct_stack.specs.Levels.{left_by, left_emptied}
+use Rattle.ct_stack.specs.Outcomes.{GivesNeeding}
 use Rattle.ct_step.specs.declared.answer.Answer.{Answer}
 use Rattle.ct_step.specs.declared.state.SessionState.{SessionState}
 use Rattle.ct_step.specs.State.{State, declared}
@@ -56,7 +58,8 @@ IsCut d (Some m) old new = ((m ≡ lengths d) × (new ≡ old)) ⊎ ((m ≢ leng
 -- says
 abbrev pub Stores : State → Command → Option Verdict → Stored → Stored → Type 0
 Stores s check_sat last old new = OfKept last (HasKept (declared s) old new)
-Stores s (check_sat_assuming ls) last old new = OfKept last (HasKept (declared s) old new)
+Stores s (check_sat_assuming ts) last old new =
+    GivesNeeding (λ d. assumptions d ts) (declared s) (λ later assumed. OfKept last (HasKept later old new))
 Stores s c last old new = IsCut (declared s) (mark_after s c) old new
 
 -- what becomes of the store by what was read, which is answered so: by a command that is refused, and by what is no command, nothing

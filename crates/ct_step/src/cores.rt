@@ -18,10 +18,12 @@ ghost use Rattle.ct_step.specs.Done.{IsDone, IsSound, state_of, assumed_in};
 ghost use Rattle.ct_step.specs.Numbers.{no_derivation};
 ghost use Rattle.ct_step.specs.Options.{budget};
 ghost use Rattle.ct_step.specs.Printing.{IsKeptCore, IsPrinted};
-ghost use Rattle.ct_step.specs.State.{context_of, derived_kept};
+ghost use Rattle.ct_step.specs.Cache.{IsCacheOf};
+ghost use Rattle.ct_step.specs.State.{context_of, declared, derived_kept};
 
 use crate::answer::{Answer, said};
 use crate::ask::NO_DERIVATION;
+use crate::cache::{Cache, take_sized};
 use crate::state::{SessionState, is_of_assumptions, kept_assumptions, kept_refutation};
 use ct_card::Sizes;
 use ct_command::CommandError;
@@ -45,52 +47,67 @@ pub enum Members {
 }
 
 /// The names of the labelled assertions in the core of the last derivation.
-pub(crate) fn unsat_core(alloc: Global, state: &mut SessionState) -> Result<Answer, CommandError>
+pub(crate) fn unsat_core(
+    alloc: Global,
+    state: &mut SessionState,
+    cache: &mut Cache,
+) -> Result<Answer, CommandError>
+    requires cache { IsCacheOf (declared (state_of state.old)) cache.old }
     requires sound { IsSound (state_of state.old) }
     ensures done { (number : ℕ) → IsDone state.old number get_unsat_core state.new result }
+    ensures cache { IsCacheOf (declared (state_of state.old)) cache.new }
 {
-    core_answer(alloc, state, Members::Names)
+    core_answer(alloc, state, cache, Members::Names)
 }
 
 /// The assumptions in the core of the last derivation, where it is of a check with assumptions.
 pub(crate) fn unsat_assumptions(
     alloc: Global,
     state: &mut SessionState,
+    cache: &mut Cache,
 ) -> Result<Answer, CommandError>
+    requires cache { IsCacheOf (declared (state_of state.old)) cache.old }
     requires sound { IsSound (state_of state.old) }
     ensures done { (number : ℕ) → IsDone state.old number get_unsat_assumptions state.new result }
+    ensures cache { IsCacheOf (declared (state_of state.old)) cache.new }
 {
     if !is_of_assumptions(&state.kept) {
         return Err(CommandError::Refused(NO_DERIVATION));
     }
-    core_answer(alloc, state, Members::Assumptions)
+    core_answer(alloc, state, cache, Members::Assumptions)
 }
 
 // The members of the core of the last derivation, which is shrunk first where the option says so.
 fn core_answer(
     alloc: Global,
     state: &mut SessionState,
+    cache: &mut Cache,
     members: Members,
 ) -> Result<Answer, CommandError>
+    requires cache { IsCacheOf (declared (state_of state.old)) cache.old }
     requires sound { IsSound (state_of state.old) }
     ensures printed { IsPrinted state.old members state.new result }
+    ensures cache { IsCacheOf (declared (state_of state.old)) cache.new }
 {
     if state.options.minimal_unsat_cores {
-        return shrunk_answer(alloc, state, members);
+        return shrunk_answer(alloc, state, cache, members);
     }
-    whole_answer(alloc, state, members)
+    whole_answer(alloc, state, cache, members)
 }
 
 // The members of the core of the last derivation.
 fn whole_answer(
     alloc: Global,
     state: &SessionState,
+    cache: &mut Cache,
     members: Members,
 ) -> Result<Answer, CommandError>
+    requires cache { IsCacheOf (declared (state_of state.now)) cache.old }
     requires sound { IsSound (state_of state.now) }
     ensures printed { state.now.options.minimal_unsat_cores ≡ false → IsPrinted state.now members state.now result }
+    ensures cache { IsCacheOf (declared (state_of state.now)) cache.new }
 {
-    let core = kept_core(alloc, state)?;
+    let core = kept_core(alloc, state, cache)?;
     let text = core_text(alloc, state, members, core.places.as_slice())?;
     Ok(said(text))
 }
@@ -99,23 +116,32 @@ fn whole_answer(
 fn shrunk_answer(
     alloc: Global,
     state: &mut SessionState,
+    cache: &mut Cache,
     members: Members,
 ) -> Result<Answer, CommandError>
+    requires cache { IsCacheOf (declared (state_of state.old)) cache.old }
     requires sound { IsSound (state_of state.old) }
     ensures printed { state.old.options.minimal_unsat_cores ≡ true → IsPrinted state.old members state.new result }
+    ensures cache { IsCacheOf (declared (state_of state.old)) cache.new }
 {
-    let core = kept_core(alloc, state)?;
-    let shrunk = shrunk_core(alloc, state, core)?;
+    let core = kept_core(alloc, state, cache)?;
+    let shrunk = shrunk_core(alloc, state, cache, core)?;
     let text = core_text(alloc, state, members, shrunk.core.places.as_slice())?;
     state.shrunk = Some(Box::into_inner(shrunk));
     Ok(said(text))
 }
 
 // The core of the last derivation, where there is one.
-fn kept_core(alloc: Global, state: &SessionState) -> Result<Box<UnsatCore>, CommandError>
+fn kept_core(
+    alloc: Global,
+    state: &SessionState,
+    cache: &mut Cache,
+) -> Result<Box<UnsatCore>, CommandError>
+    requires cache { IsCacheOf (declared (state_of state.now)) cache.old }
     requires sound { IsSound (state_of state.now) }
     ensures core { IfOk result (λ core. IsKeptCore state.now core.value) }
     ensures refused { (n : ℕ) → IsErrOf result (CommandError.Refused n) → (n ≡ no_derivation) × (derived_kept (state_of state.now).kept ≡ None) }
+    ensures cache { IsCacheOf (declared (state_of state.now)) cache.new }
 {
     let Some(derivation) = kept_refutation(&state.last, &state.kept) else {
         return Err(CommandError::Refused(NO_DERIVATION));
@@ -124,35 +150,28 @@ fn kept_core(alloc: Global, state: &SessionState) -> Result<Box<UnsatCore>, Comm
     cores_of_refutations();
     let sig = &state.stack.scope().sig;
     sig.sorts();
-    core_of_derivation(alloc, sig, derivation)
+    let base = take_sized(alloc, sig, &mut cache.base)?;
+    let core = core_of_derivation(alloc, sig, base.sizes(), derivation);
+    cache.base = Some(base);
+    core
 }
 
 // The core of a derivation over these declarations.
 fn core_of_derivation(
     alloc: Global,
     sig: &Signature,
+    sizes: &Sizes,
     derivation: &Derivation,
 ) -> Result<Box<UnsatCore>, CommandError>
+    requires sizes { AreSizes sig.now sizes.now }
     requires declarations { derivation.now.declarations ≡ sig.now }
     ensures core { IfOk result (λ core. IsCore derivation.now core.value.places.items core.value.derivation) }
     ensures passes { IfOk result (λ core. Passes sig.now derivation.now.rec.terms derivation.now.asserts derivation.now.rec.lines
         → Passes sig.now core.value.derivation.rec.terms core.value.derivation.asserts core.value.derivation.rec.lines) }
     ensures err { OnErr result (result ≡ Err CommandError.NoMemory) }
 {
-    let sizes = sizes_of(alloc, sig)?;
-    match core_of(alloc, sig, &sizes, derivation) {
+    match core_of(alloc, sig, sizes, derivation) {
         Ok(core) => Ok(Box::new(alloc, core)?),
-        Err(_) => Err(CommandError::NoMemory),
-    }
-}
-
-// The sizes of all sorts.
-fn sizes_of(alloc: Global, sig: &Signature) -> Result<Box<Sizes>, CommandError>
-    ensures sizes { IfOk result (λ sizes. AreSizes sig.now sizes.value) }
-    ensures err { OnErr result (result ≡ Err CommandError.NoMemory) }
-{
-    match Sizes::new(alloc, sig) {
-        Ok(sizes) => Ok(Box::new(alloc, sizes)?),
         Err(_) => Err(CommandError::NoMemory),
     }
 }
@@ -161,13 +180,16 @@ fn sizes_of(alloc: Global, sig: &Signature) -> Result<Box<Sizes>, CommandError>
 fn shrunk_core(
     alloc: Global,
     state: &SessionState,
+    cache: &mut Cache,
     core: Box<UnsatCore>,
 ) -> Result<Box<Shrunk>, CommandError>
+    requires cache { IsCacheOf (declared (state_of state.now)) cache.old }
     requires sound { IsSound (state_of state.now) }
     requires core { IsKeptCore state.now core.value }
     ensures shrunk { IfOk result (λ shrunk. IsShrunkTo (context_of (state_of state.now)) (assuming state.now.stack (assumptions_seen (assumed_in state.now.kept)))
         (budget state.now.options) core.value.places.items shrunk.value) }
     ensures err { OnErr result (result ≡ Err CommandError.NoMemory) }
+    ensures cache { IsCacheOf (declared (state_of state.now)) cache.new }
 {
     meanings();
     cores_of_refutations();
@@ -175,26 +197,31 @@ fn shrunk_core(
     sig.sorts();
     let (table, numbers) = asked_terms(alloc, state)?;
     let limit = state.options.budget();
+    let base = take_sized(alloc, sig, &mut cache.base)?;
     let shrunk = boxed_shrunk(
         alloc,
         sig,
+        base.sizes(),
         &table,
         numbers.as_slice(),
         limit,
         Box::into_inner(core),
-    )?;
-    Ok(shrunk)
+    );
+    cache.base = Some(base);
+    shrunk
 }
 
 // A core of assertions that are terms of a table, shrunk.
 fn boxed_shrunk(
     alloc: Global,
     sig: &Signature,
+    sizes: &Sizes,
     table: &TermTable,
     asserts: &[TermId],
     budget: u64,
     core: UnsatCore,
 ) -> Result<Box<Shrunk>, CommandError>
+    requires sizes { AreSizes sig.now sizes.now }
     requires sorted { AreSorted sig.now table.now }
     requires asserts { All (IsBoolean table.now) asserts.now }
     requires fits { HasMoreThan sig.now (terms_at table.now asserts.now) most_closure_terms → ⊥ }
@@ -202,7 +229,7 @@ fn boxed_shrunk(
     ensures shrunk { IfOk result (λ shrunk. IsShrunk sig.now table.now asserts.now budget core.places.items shrunk.value) }
     ensures err { OnErr result (result ≡ Err CommandError.NoMemory) }
 {
-    match shrink(alloc, sig, table, asserts, budget, core) {
+    match shrink(alloc, sig, sizes, table, asserts, budget, core) {
         Ok(shrunk) => Ok(Box::new(alloc, shrunk)?),
         Err(_) => Err(CommandError::NoMemory),
     }

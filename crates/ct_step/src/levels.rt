@@ -5,10 +5,13 @@ ghost use Rattle.ct_terms.specs.Terms.{AreSorted};
 ghost use Rattle.ct_command.specs.Command.{push, pop, reset_assertions, reset};
 ghost use Rattle.ct_stack.specs.Levels.{IsBeside};
 ghost use Rattle.ct_stack.specs.Stack.{in_force};
+ghost use Rattle.ct_step.specs.Cache.{IsCacheOf};
 ghost use Rattle.ct_step.specs.Done.{IsDone, state_of};
+ghost use Rattle.ct_step.specs.State.{declared};
 ghost use Rattle.ct_step.specs.Store.{IsStoreOf, IsCut, IsStored};
 
 use crate::answer::{Answer, quiet};
+use crate::cache::{Cache, close_level, cut_cache, forget, keep_asserted};
 use crate::options::Options;
 use crate::state::SessionState;
 use ct_command::CommandError;
@@ -21,11 +24,15 @@ use std::alloc::{AllocError, Global};
 pub(crate) fn push(
     alloc: Global,
     state: &mut SessionState,
+    cache: &mut Cache,
     count: u128,
 ) -> Result<Answer, CommandError>
+    requires cache { IsCacheOf (declared (state_of state.old)) cache.old }
     ensures done { (number : ℕ) → IsDone state.old number (push count) state.new result }
+    ensures cache { IsCacheOf (declared (state_of state.old)) cache.new }
 {
     let answer = quiet(alloc, state.options)?;
+    close_level(alloc, &state.stack, state.options.budget(), cache);
     state.stack.push(count)?;
     state.kept = None;
     Ok(answer)
@@ -36,18 +43,23 @@ pub(crate) fn pop(
     alloc: Global,
     state: &mut SessionState,
     store: &mut Kept,
+    cache: &mut Cache,
     count: u128,
 ) -> Result<Answer, CommandError>
     requires sorted { IsStoreOf (state_of state.old) store.old }
+    requires cache { IsCacheOf (declared (state_of state.old)) cache.old }
     ensures done { (number : ℕ) → IsDone state.old number (pop count) state.new result }
     ensures stored { IsStored state.old (pop count) state.new result store.old store.new }
     ensures sorted { IsStoreOf (state_of state.new) store.new }
+    ensures cache { IsCacheOf (declared (state_of state.new)) cache.new }
 {
     let answer = quiet(alloc, state.options)?;
     let global = state.options.global_declarations;
     let mark = state.stack.mark_below(global, count);
     cut_store(alloc, &state.stack, mark, store)?;
+    cut_cache(alloc, &state.stack, global, count, cache);
     state.stack.pop(global, count)?;
+    keep_asserted(&state.stack, cache);
     cut_labels(state);
     state.kept = None;
     Ok(answer)
@@ -58,17 +70,21 @@ pub(crate) fn reset_assertions(
     alloc: Global,
     state: &mut SessionState,
     store: &mut Kept,
+    cache: &mut Cache,
 ) -> Result<Answer, CommandError>
     requires sorted { IsStoreOf (state_of state.old) store.old }
+    requires cache { IsCacheOf (declared (state_of state.old)) cache.old }
     ensures done { (number : ℕ) → IsDone state.old number reset_assertions state.new result }
     ensures stored { IsStored state.old reset_assertions state.new result store.old store.new }
     ensures sorted { IsStoreOf (state_of state.new) store.new }
+    ensures cache { IsCacheOf (declared (state_of state.new)) cache.new }
 {
     let answer = quiet(alloc, state.options)?;
     let global = state.options.global_declarations;
     let mark = state.stack.first_mark(global);
     cut_store(alloc, &state.stack, mark, store)?;
     state.stack.empty(global);
+    forget(cache);
     cut_labels(state);
     state.kept = None;
     Ok(answer)
@@ -79,17 +95,21 @@ pub(crate) fn reset(
     alloc: Global,
     state: &mut SessionState,
     store: &mut Kept,
+    cache: &mut Cache,
 ) -> Result<Answer, CommandError>
     requires sorted { IsStoreOf (state_of state.old) store.old }
+    requires cache { IsCacheOf (declared (state_of state.old)) cache.old }
     ensures done { (number : ℕ) → IsDone state.old number reset state.new result }
     ensures stored { IsStored state.old reset state.new result store.old store.new }
     ensures sorted { IsStoreOf (state_of state.new) store.new }
+    ensures cache { IsCacheOf (declared (state_of state.new)) cache.new }
 {
     let options = Options::new(state.options.first_error_behavior);
     let answer = quiet(alloc, options)?;
     let mark = state.stack.first_mark(false);
     cut_store(alloc, &state.stack, mark, store)?;
     state.stack.reset();
+    forget(cache);
     state.labels.truncate(0);
     state.options = options;
     state.diagnostic_output = None;

@@ -22,6 +22,11 @@
 //! **`success` after the command.** Whether it is printed depends on the options after the command: turning it on is answered,
 //! turning it off is not. `exit` is answered like other commands.
 //!
+//! **What is stored for speed.** Checks leave sizes of sorts, closed tables and the last model in a cache (`cache.rt`). Its only
+//! condition is that it is of what is declared, or of an earlier state of that: each check tests what it takes from there. It is
+//! emptied where memory runs out. With 10,000 decisions or fewer a check takes sizes alone, so that small limits answer as the
+//! first check does.
+//!
 //! **Logics.** All names of logics stand for one language, and what a name promises of the terms is not checked: a term is refused on
 //! its own. Which logic is set, when, or whether any is set, changes nothing. A name that is not made of the parts of SMT-LIB's
 //! names is error 55. `set-info` accepts every value, since files say of themselves what they like.
@@ -29,6 +34,7 @@
 
 mod answer;
 mod ask;
+mod cache;
 mod check;
 mod cores;
 mod declare;
@@ -37,15 +43,18 @@ mod levels;
 mod logics;
 mod options;
 mod performing;
+mod rehearsal;
 mod response;
 mod settings;
 mod state;
 mod theorems;
 
 pub use answer::{Answer, refusal_text, refused};
+pub use cache::{Cache, empty_cache};
 pub use cores::Members;
 pub use options::Options;
 pub use performing::perform;
+pub use rehearsal::rehearse_assuming;
 pub use response::CheckResponse;
 pub use state::{Asked, SessionState};
 pub use theorems::decided_checks;

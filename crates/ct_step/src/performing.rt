@@ -1,12 +1,15 @@
 //! Executes commands: what each changes, and what it answers.
 ghost use Rattle.std.specs.Prelude.{◌≡◌, None, if◌then◌else◌};
 ghost use Rattle.ct_command.specs.Seen.{command_seen};
+ghost use Rattle.ct_step.specs.Cache.{IsCacheOf};
 ghost use Rattle.ct_step.specs.Done.{IsDone, state_of};
+ghost use Rattle.ct_step.specs.State.{declared};
 ghost use Rattle.ct_step.specs.Store.{IsSoundWith, IsStored};
 ghost use Rattle.ct_step.specs.Known.{AreKnown, only_asks};
 
 use crate::answer::Answer;
 use crate::ask::{model, proof, values};
+use crate::cache::{Cache, forget_if};
 use crate::check::{check, check_assuming};
 use crate::cores::{unsat_assumptions, unsat_core};
 use crate::declare::{
@@ -34,20 +37,24 @@ pub fn perform(
     alloc: Global,
     state: &mut SessionState,
     store: &mut Kept,
+    cache: &mut Cache,
     known: &mut Option<ModelValues>,
     number: u64,
     command: Command<'_>,
 ) -> Result<Answer, CommandError>
     requires sound { IsSoundWith (state_of state.old) store.old }
+    requires cache { IsCacheOf (declared (state_of state.old)) cache.old }
     requires known { AreKnown (state_of state.old) known.old }
     ensures done { IsDone state.old number (command_seen command.entry) state.new result }
     ensures stored { IsStored state.old (command_seen command.entry) state.new result store.old store.new }
     ensures sound { IsSoundWith (state_of state.new) store.new }
+    ensures cache { IsCacheOf (declared (state_of state.new)) cache.new }
     ensures known { AreKnown (state_of state.new) known.new }
 {
     let asks = only_asks(&command);
-    let done = pass_on(alloc, state, store, known, number, command);
+    let done = pass_on(alloc, state, store, cache, known, number, command);
     keep_if(known, asks);
+    forget_if(cache, matches!(done, Err(CommandError::NoMemory)));
     done
 }
 
@@ -82,15 +89,18 @@ fn pass_on(
     alloc: Global,
     state: &mut SessionState,
     store: &mut Kept,
+    cache: &mut Cache,
     known: &mut Option<ModelValues>,
     number: u64,
     command: Command<'_>,
 ) -> Result<Answer, CommandError>
     requires sound { IsSoundWith (state_of state.old) store.old }
+    requires cache { IsCacheOf (declared (state_of state.old)) cache.old }
     requires known { AreKnown (state_of state.old) known.old }
     ensures done { IsDone state.old number (command_seen command.entry) state.new result }
     ensures stored { IsStored state.old (command_seen command.entry) state.new result store.old store.new }
     ensures sound { IsSoundWith (state_of state.new) store.new }
+    ensures cache { IsCacheOf (declared (state_of state.new)) cache.new }
     ensures known { AreKnown (state_of state.old) known.new }
 {
     growing();
@@ -111,19 +121,17 @@ fn pass_on(
             define_function(alloc, state, name, params, sort, term)
         }
         Command::Assert(term, label) => assert(alloc, state, term, label),
-        Command::CheckSat => check(alloc, state, store, number),
-        Command::CheckSatAssuming(literals) => {
-            check_assuming(alloc, state, store, literals.as_slice())
-        }
-        Command::Push(count) => push(alloc, state, count),
-        Command::Pop(count) => pop(alloc, state, store, count),
-        Command::ResetAssertions => reset_assertions(alloc, state, store),
-        Command::Reset => reset(alloc, state, store),
+        Command::CheckSat => check(alloc, state, store, cache, number),
+        Command::CheckSatAssuming(terms) => check_assuming(alloc, state, store, cache, terms),
+        Command::Push(count) => push(alloc, state, cache, count),
+        Command::Pop(count) => pop(alloc, state, store, cache, count),
+        Command::ResetAssertions => reset_assertions(alloc, state, store, cache),
+        Command::Reset => reset(alloc, state, store, cache),
         Command::GetModel => model(alloc, state),
         Command::GetValue(terms) => values(alloc, state, known, terms),
         Command::GetProof => proof(alloc, state),
-        Command::GetUnsatCore => unsat_core(alloc, state),
-        Command::GetUnsatAssumptions => unsat_assumptions(alloc, state),
+        Command::GetUnsatCore => unsat_core(alloc, state, cache),
+        Command::GetUnsatAssumptions => unsat_assumptions(alloc, state, cache),
         Command::Echo(expr) => echo(alloc, expr),
         Command::Exit => exit(alloc, state),
         Command::Unsupported => unsupported(alloc),

@@ -8,8 +8,10 @@ ghost use Rattle.ct_step.specs.Options.{budget};
 ghost use Rattle.ct_step.specs.State.{State, context_of, declared};
 ghost use Rattle.ct_step.specs.Step.{CommandEffect, Steps};
 
+use ct_base::lasting_bases;
 use ct_sorts::growth;
 use ct_terms::one_lasting_sort;
+use ct_trial::lasting_models;
 
 /// The theorem that checks are decided. The function does nothing.
 pub fn decided_checks()
@@ -29,4 +31,6 @@ pub(crate) fn growing()
 {
     growth();
     one_lasting_sort();
+    lasting_bases();
+    lasting_models();
 }

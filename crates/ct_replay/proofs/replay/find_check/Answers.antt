@@ -10,14 +10,14 @@ returns-in-Found c =
     let first : Located = record { command = expression_of c.in-Ok-Command.expr; line = c.in-Ok-Command.line } in
     let is : IsFirstCommand c.loop-expr.reader c.next.new.self first = rw c.in-Ok-Command.field-0-is at c.in-Ok-Command.ensures.reads in
     let turned = rw c.in-Found.is at c.in_ok-turn-in-Ok-Command.ensures.turned in
-    record { found = ends_with c.one_text.ensures.some_text c.args.reader.now c.loop-expr.reader c.next.new.self c.args.session.now c.loop-expr.session c.args.wanted first (Some c.replay.new.session.state) c.loop-expr.invariant.went is (λ cs. turned cs (Some c.replay.new.session.state) refl) }
+    record { found = ends_with c.one_text.ensures.some_text c.args.reader.now c.loop-expr.reader c.next.new.self c.args.session.now c.loop-expr.session c.loop-expr.standing c.args.wanted first (Some c.replay.new.session.state) c.loop-expr.invariant.went is (λ cs. turned cs (Some c.replay.new.session.state) refl) }
 
 pub returns-in-Over : goal.returns-in-Over
 returns-in-Over c =
     let first : Located = record { command = expression_of c.in-Ok-Command.expr; line = c.in-Ok-Command.line } in
     let is : IsFirstCommand c.loop-expr.reader c.next.new.self first = rw c.in-Ok-Command.field-0-is at c.in-Ok-Command.ensures.reads in
     let turned = rw c.in-Over.is at c.in_ok-turn-in-Ok-Command.ensures.turned in
-    record { found = ends_with c.one_text.ensures.some_text c.args.reader.now c.loop-expr.reader c.next.new.self c.args.session.now c.loop-expr.session c.args.wanted first None c.loop-expr.invariant.went is (λ cs. turned cs None refl) }
+    record { found = ends_with c.one_text.ensures.some_text c.args.reader.now c.loop-expr.reader c.next.new.self c.args.session.now c.loop-expr.session c.loop-expr.standing c.args.wanted first None c.loop-expr.invariant.went is (λ cs. turned cs None refl) }
 
 pub loop-expr-preserved-in-On-8 : goal.loop-expr-preserved-in-On-8
 loop-expr-preserved-in-On-8 c =
@@ -26,7 +26,7 @@ loop-expr-preserved-in-On-8 c =
     let gives : GivesCommand c.loop-expr.reader c.next.new.self first.command first.line = rw c.in-Ok-Command.field-0-is at c.in-Ok-Command.ensures.answers in
     let turned = rw c.in-On.is at c.in_ok-turn-in-Ok-Command.ensures.turned in
     record {
-      went = goes_on c.args.reader.now c.loop-expr.reader c.next.new.self c.args.session.now c.loop-expr.session c.replay.new.session c.args.wanted first c.loop-expr.invariant.went is turned;
+      went = goes_on c.args.reader.now c.loop-expr.reader c.next.new.self c.args.session.now c.loop-expr.session c.replay.new.session c.loop-expr.standing c.in-On.now c.args.wanted first c.loop-expr.invariant.went is turned;
       ended = gives.ended ∙ c.loop-expr.invariant.ended;
       unanswered = c.replay.ensures.unanswered;
     }

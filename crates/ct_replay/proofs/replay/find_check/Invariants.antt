@@ -5,7 +5,7 @@ use Rattle.ct_replay.proofs.replay.find_check.Given as goal
 
 abbrev pub invariant-loop-expr : goal.invariant-loop-expr
 invariant-loop-expr l = record {
-  went : Completes l.initial.reader l.initial.session l.reader l.session l.wanted;
+  went : Completes l.initial.reader l.initial.session l.reader l.session l.standing l.wanted;
   ended : l.reader.ended ≡ true;
   unanswered : l.session.evidence ≡ no_evidence;
 }

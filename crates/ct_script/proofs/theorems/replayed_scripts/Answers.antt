@@ -13,14 +13,14 @@ pub returns-clause-check : goal.returns-clause-check
 returns-clause-check c = check_rests
 
 pub returns-clause-replayed : goal.returns-clause-replayed
-returns-clause-replayed c = λ s number line x e old new r one step replays.
-    replayed_alike c.additions.ensures.same s (counted number x) old new line (command x) e r one step replays
+returns-clause-replayed c = λ s number line x e old new standing r one step replays.
+    replayed_alike c.additions.ensures.same s (counted number x) old new standing line (command x) e r one step replays
 
 pub returns-clause-counted : goal.returns-clause-counted
-returns-clause-counted c = λ line x old new r replays. replayed_counted old new line (command x) r replays
+returns-clause-counted c = λ line x old new standing r replays. replayed_counted old new standing line (command x) r replays
 
 pub returns-clause-told : goal.returns-clause-told
-returns-clause-told c = λ line x old new r replays. replayed_told old new line (command x) r replays
+returns-clause-told c = λ line x old new standing r replays. replayed_told old new standing line (command x) r replays
 
 pub returns-clause-replay : goal.returns-clause-replay
 returns-clause-replay c = leads_alike c.additions.ensures.same

@@ -30,10 +30,10 @@ no_bodies now before same = ([], ap (map formula_of) same ∙ sym (append-nil (m
 pub returns-in_err-formula-clause-refused : goal.returns-in_err-formula-clause-refused
 returns-in_err-formula-clause-refused c =
     let p = err_from_is_err_and c.from_residual.result c.from_residual.ensures.1 in
-    rw (p.1, p.2) (λ n e. no_formula (context_in c.args.scope.now) (map formula_of c.args.asserts.now.items) (bytes_seen c.args.label) (expression_of c.args.expr.now) c.asserted_formula.new.scope.sig n (c.in_err-formula.ensures.refused n (same_refusal _ n e)))
+    rw (p.1, p.2) (λ n e. no_formula (context_in c.args.scope.now) (map formula_of c.args.asserts.now.items) (bytes_seen c.args.label) (expression_of c.args.expr.now) c.boolean_formula.new.scope.sig n (c.in_err-formula.ensures.refused n (same_refusal _ n e)))
 
 pub returns-in_err-formula-clause-bodies : goal.returns-in_err-formula-clause-bodies
-returns-in_err-formula-clause-bodies c = no_bodies c.asserted_formula.new.scope.bodies c.args.scope.now.bodies c.in_err-formula.ensures.bodies
+returns-in_err-formula-clause-bodies c = no_bodies c.boolean_formula.new.scope.bodies c.args.scope.now.bodies c.in_err-formula.ensures.bodies
 
 pub returns-in_err-formula-clause-longer_table : goal.returns-in_err-formula-clause-longer_table
 returns-in_err-formula-clause-longer_table c = ([], sym (append-nil c.args.table.now))
@@ -44,7 +44,7 @@ returns-in_err-formula-clause-longer c = ([], sym (append-nil c.args.numbers.now
 pub returns-in_err-tree-clause-refused : goal.returns-in_err-tree-clause-refused
 returns-in_err-tree-clause-refused c =
     let old = context_in c.args.scope.now in
-    let mid = c.asserted_formula.new.scope in
+    let mid = c.boolean_formula.new.scope in
     let label = bytes_seen c.args.label in
     let before = map formula_of c.args.asserts.now.items in
     let f = formula_of c.in_ok-formula.formula in
@@ -68,7 +68,7 @@ returns-in_err-tree-clause-longer c = ([], sym (append-nil c.args.numbers.now.it
 pub add_assertion-requires : goal.add_assertion-requires
 add_assertion-requires c =
     let old = c.args.scope.now in
-    let mid = c.asserted_formula.new.scope in
+    let mid = c.boolean_formula.new.scope in
     let new = c.define_label.new.scope in
     let label = bytes_seen c.args.label in
     let f = formula_of c.in_ok-formula.formula in
@@ -92,7 +92,7 @@ returns-clause-held c = in_any_case c.add_assertion.result _ c.add_assertion.ens
 pub returns-clause-ok : goal.returns-clause-ok
 returns-clause-ok c =
     let old = c.args.scope.now in
-    let mid = c.asserted_formula.new.scope in
+    let mid = c.boolean_formula.new.scope in
     let label = bytes_seen c.args.label in
     let f = formula_of c.in_ok-formula.formula in
     let same = same_context mid.bodies old.bodies mid.sig c.in_ok-formula.ensures.bodies in
@@ -104,7 +104,7 @@ returns-clause-ok c =
 pub returns-clause-accepted : goal.returns-clause-accepted
 returns-clause-accepted c =
     let old = c.args.scope.now in
-    let mid = c.asserted_formula.new.scope in
+    let mid = c.boolean_formula.new.scope in
     let label = bytes_seen c.args.label in
     let before = map formula_of c.args.asserts.now.items in
     let f = formula_of c.in_ok-formula.formula in
@@ -118,7 +118,7 @@ returns-clause-accepted c =
 pub returns-clause-refused : goal.returns-clause-refused
 returns-clause-refused c = λ n e.
     let old = c.args.scope.now in
-    let mid = c.asserted_formula.new.scope in
+    let mid = c.boolean_formula.new.scope in
     let label = bytes_seen c.args.label in
     let before = map formula_of c.args.asserts.now.items in
     let f = formula_of c.in_ok-formula.formula in
@@ -135,7 +135,7 @@ pub returns-clause-grown : goal.returns-clause-grown
 returns-clause-grown c =
     let theorems = c.stack_theorems.ensures.hold in
     let old = c.args.scope.now in
-    let mid = c.asserted_formula.new.scope in
+    let mid = c.boolean_formula.new.scope in
     let new = c.define_label.new.scope in
     let label = bytes_seen c.args.label in
     let f = formula_of c.in_ok-formula.formula in
@@ -144,7 +144,7 @@ returns-clause-grown c =
 
 pub returns-clause-bodies : goal.returns-clause-bodies
 returns-clause-bodies c =
-    let mid = c.asserted_formula.new.scope in
+    let mid = c.boolean_formula.new.scope in
     let label = bytes_seen c.args.label in
     let f = formula_of c.in_ok-formula.formula in
     subst (λ (bs : List Tree). Begins (map formula_of bs) (map formula_of c.define_label.new.scope.bodies)) c.in_ok-formula.ensures.bodies

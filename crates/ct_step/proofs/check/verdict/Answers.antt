@@ -4,6 +4,7 @@ use Rattle.ct_sorts.specs.Declarations.{Declarations}
 use Rattle.ct_terms.specs.Terms.{AreSorted}
 use Rattle.ct_engine.specs.Keeping.{HasKept}
 use Rattle.ct_stack.specs.Stack.{Context}
+use Rattle.ct_step.specs.Cache.{IsCacheOf}
 use Rattle.ct_step.specs.Refusal.{IsCheckRefusal}
 use Rattle.ct_step.proofs.CauseLemmas.{refused_by}
 use Rattle.ct_step.proofs.CheckLemmas.{sorted, exact, check_fits, check_too_large, check_comes_to}
@@ -18,6 +19,7 @@ verdict_over-requires c =
       asserts = held.in_table.booleans;
       exact = exact c.args.stack.now c.scope.result.now.sig c.core_terms.result.0.now c.core_terms.result.1.now is held;
       kept = subst (λ (d : Declarations). AreSorted d c.args.store.now.table) (sym is) c.requires.sorted;
+      cache = subst (λ (d : Declarations). IsCacheOf d c.args.cache.now) (sym is) c.requires.cache;
     }
 
 pub returns-in_err-verdict-clause-refused : goal.returns-in_err-verdict-clause-refused
@@ -49,3 +51,9 @@ returns-clause-kept c =
 
 pub returns-clause-sorted : goal.returns-clause-sorted
 returns-clause-sorted c = subst (λ (d : Declarations). AreSorted d c.verdict_over.new.store.table) (ap (λ (x : Context). x.declarations) c.scope.ensures.value) c.in_ok-verdict.ensures.sorted
+
+pub returns-in_err-verdict-clause-cache : goal.returns-in_err-verdict-clause-cache
+returns-in_err-verdict-clause-cache c = subst (λ (d : Declarations). IsCacheOf d c.verdict_over.new.cache) (ap (λ (x : Context). x.declarations) c.scope.ensures.value) c.in_err-verdict.ensures.cache
+
+pub returns-clause-cache : goal.returns-clause-cache
+returns-clause-cache c = subst (λ (d : Declarations). IsCacheOf d c.verdict_over.new.cache) (ap (λ (x : Context). x.declarations) c.scope.ensures.value) c.in_ok-verdict.ensures.cache

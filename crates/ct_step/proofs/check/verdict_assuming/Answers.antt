@@ -6,6 +6,7 @@ use Rattle.ct_engine.specs.Keeping.{HasKept}
 use Rattle.ct_stack.specs.Assuming.{with_assumed, assumptions_seen}
 use Rattle.ct_stack.specs.Held.{IsHeld, as_one}
 use Rattle.ct_stack.specs.Stack.{Context}
+use Rattle.ct_step.specs.Cache.{IsCacheOf}
 use Rattle.ct_step.specs.Refusal.{IsTooLarge}
 use Rattle.ct_step.proofs.CauseLemmas.{refused_by}
 use Rattle.ct_step.proofs.CheckLemmas.{assumed_sorted, assumed_exact, assumed_fits, assumed_too_large, assumed_comes_to}
@@ -18,6 +19,9 @@ returns-in_err-table-clause-refused c =
 
 pub returns-in_err-table-clause-sorted : goal.returns-in_err-table-clause-sorted
 returns-in_err-table-clause-sorted c = c.requires.sorted
+
+pub returns-in_err-table-clause-cache : goal.returns-in_err-table-clause-cache
+returns-in_err-table-clause-cache c = c.requires.cache
 
 pub verdict_over-requires : goal.verdict_over-requires
 verdict_over-requires c =
@@ -32,6 +36,7 @@ verdict_over-requires c =
       asserts = held.in_table.booleans;
       exact = assumed_exact s assumed c.scope.result.now.sig table numbers is held;
       kept = subst (λ (d : Declarations). AreSorted d c.args.store.now.table) (sym is) c.requires.sorted;
+      cache = subst (λ (d : Declarations). IsCacheOf d c.args.cache.now) (sym is) c.requires.cache;
     }
 
 pub returns-in_err-verdict-clause-refused : goal.returns-in_err-verdict-clause-refused
@@ -78,3 +83,9 @@ returns-clause-kept c =
 
 pub returns-clause-sorted : goal.returns-clause-sorted
 returns-clause-sorted c = subst (λ (d : Declarations). AreSorted d c.verdict_over.new.store.table) (ap (λ (x : Context). x.declarations) c.scope.ensures.value) c.in_ok-verdict.ensures.sorted
+
+pub returns-in_err-verdict-clause-cache : goal.returns-in_err-verdict-clause-cache
+returns-in_err-verdict-clause-cache c = subst (λ (d : Declarations). IsCacheOf d c.verdict_over.new.cache) (ap (λ (x : Context). x.declarations) c.scope.ensures.value) c.in_err-verdict.ensures.cache
+
+pub returns-clause-cache : goal.returns-clause-cache
+returns-clause-cache c = subst (λ (d : Declarations). IsCacheOf d c.verdict_over.new.cache) (ap (λ (x : Context). x.declarations) c.scope.ensures.value) c.in_ok-verdict.ensures.cache

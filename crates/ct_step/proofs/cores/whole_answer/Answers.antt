@@ -13,13 +13,13 @@ pub returns-in_err-core : goal.returns-in_err-core
 returns-in_err-core c =
     let s = c.args.state.now in
     let p = err_from_is_err_and c.from_residual.result c.from_residual.ensures.1 in
-    rw (p.1, p.2) (record { printed = λ whole. not_printed s s c.args.members _ c.in_err-core.ensures.refused (same_stack s s.stack refl) })
+    rw (p.1, p.2) (record { printed = λ whole. not_printed s s c.args.members _ c.in_err-core.ensures.refused (same_stack s s.stack refl); cache = c.kept_core.ensures.cache })
 
 pub returns-in_err-text : goal.returns-in_err-text
 returns-in_err-text c =
     let s = c.args.state.now in
     let p = err_from_is_err_and c.from_residual-in_err-text.result c.from_residual-in_err-text.ensures.1 in
-    rw (p.1, p.2) (record { printed = λ whole. out_of_memory s s c.args.members _ c.in_err-text.ensures.err (same_stack s s.stack refl) })
+    rw (p.1, p.2) (record { printed = λ whole. out_of_memory s s c.args.members _ c.in_err-text.ensures.err (same_stack s s.stack refl); cache = c.kept_core.ensures.cache })
 
 pub returns : goal.returns
 returns c =
@@ -29,4 +29,5 @@ returns c =
       printed = λ whole.
           prints_whole s s c.args.members c.in_ok-core.core.value c.in_ok-core.ensures.core c.said.result whole (same_stack s s.stack refl)
           (λ t. same_text t c.said.result _ _ text (c.said.ensures.answer t));
+      cache = c.kept_core.ensures.cache;
     }

@@ -6,9 +6,11 @@ use Rattle.ct_stack.specs.Levels.{popped_by}
 use Rattle.ct_stack.specs.Stack.{Stack}
 use Rattle.ct_step.specs.declared.state.SessionState.{SessionState}
 use Rattle.ct_step.specs.Done.{Performs, state_of}
-use Rattle.ct_step.specs.State.{cut_back}
+use Rattle.ct_step.specs.Cache.{IsCacheOf}
+use Rattle.ct_step.specs.State.{cut_back, declared}
 use Rattle.ct_step.specs.Step.{quiet}
 use Rattle.ct_step.specs.Store.{IsStoreOf, IsCut}
+use Rattle.ct_step.proofs.CacheLemmas.{cache_as, refused_cache}
 use Rattle.ct_step.proofs.CutLemmas.{levels_stand, can_cut, popped_same, sorted_left, refused_same, sorted_as}
 use Rattle.ct_step.proofs.DoneLemmas.{not_done, cuts, same_stack}
 use Rattle.ct_step.proofs.levels.pop.Goals as goal
@@ -26,7 +28,19 @@ returns-in_err-pop c =
       done = λ number. not_done c.args.state.now _ number (pop c.args.count) _ c.in_err-pop.ensures.refused (same_stack c.args.state.now c.pop.new.self c.in_err-pop.ensures.unchanged);
       stored = same;
       sorted = rw same (sorted_as s c.pop.new.self c.args.store.now c.in_err-pop.ensures.unchanged c.requires.sorted);
+      cache =
+          cache_as s c.pop.new.self c.cut_cache.new.cache c.in_err-pop.ensures.unchanged
+          (refused_cache s.top.context.declarations s c.args.count c.cut_cache.new.cache _ c.in_err-pop.ensures.refused c.in_err-pop.ensures.no_memory c.cut_cache.ensures.above);
     })
+
+pub keep_asserted-requires : goal.keep_asserted-requires
+keep_asserted-requires c =
+    let s = c.args.state.now.stack in
+    record {
+      cache =
+          cache_as (popped_by c.args.state.now.options.global_declarations c.args.count s) c.pop.new.self c.cut_cache.new.cache c.in_ok-pop.ensures.ok
+          (c.cut_cache.ensures.cut (levels_stand s c.args.count c.in_ok-pop.ensures.accepted));
+    }
 
 pub returns : goal.returns
 returns c =
@@ -46,4 +60,5 @@ returns c =
           subst (λ (x : SessionState). IsStoreOf (state_of (record x { kept = None })) c.cut_store.new.store) (sym own)
           (sorted_as (popped_by global c.args.count s) c.pop.new.self c.cut_store.new.store c.in_ok-pop.ensures.ok
           (sorted_left s.top.context.declarations _ c.mark_below-mark.result c.args.store.now c.cut_store.new.store (λ none. popped_same global c.args.count s (sym is ∙ none)) c.mark_below-mark.ensures.cut c.in_ok-cut_store.ensures.cut c.in_ok-cut_store.ensures.sorted c.requires.sorted));
+      cache = subst (λ (x : SessionState). IsCacheOf (declared (state_of (record x { kept = None }))) c.keep_asserted.new.cache) (sym own) c.keep_asserted.ensures.cache;
     }

@@ -18,4 +18,5 @@ returns c =
       sorted =
           sorted_as (emptied false s) c.reset.new.self c.cut_store.new.store c.reset.ensures.reset
           (sorted_left s.top.context.declarations _ c.first_mark-mark.result c.args.store.now c.cut_store.new.store (λ none. emptied_same false s (sym c.first_mark-mark.ensures.mark ∙ none)) c.first_mark-mark.ensures.cut c.in_ok-cut_store.ensures.cut c.in_ok-cut_store.ensures.sorted c.requires.sorted);
+      cache = c.forget.ensures.cache _;
     }

@@ -31,4 +31,5 @@ returns c =
           subst (λ (x : SessionState). IsStoreOf (state_of (record x { kept = None })) c.cut_store.new.store) (sym own)
           (sorted_as (emptied global s) c.empty.new.self c.cut_store.new.store c.empty.ensures.emptied
           (sorted_left s.top.context.declarations _ c.first_mark-mark.result c.args.store.now c.cut_store.new.store (λ none. emptied_same global s (sym c.first_mark-mark.ensures.mark ∙ none)) c.first_mark-mark.ensures.cut c.in_ok-cut_store.ensures.cut c.in_ok-cut_store.ensures.sorted c.requires.sorted));
+      cache = c.forget.ensures.cache _;
     }

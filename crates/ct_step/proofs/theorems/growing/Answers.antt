@@ -15,5 +15,7 @@ returns c =
         function = c.growth.ensures.function;
         definition = c.growth.ensures.definition;
         table = c.one_lasting_sort.ensures.table;
+        bases = c.lasting_bases.ensures.later;
+        models = c.lasting_models.ensures.later;
       };
     }

@@ -6,7 +6,7 @@ use Rattle.ct_script.proofs.CourseLemmas.{done, store_done, not_done, store_left
 use Rattle.ct_script.proofs.session.Session.perform.Goals as goal
 
 pub invariant_of-self : goal.invariant_of-self
-invariant_of-self c = (c.perform.ensures.sound, c.perform.ensures.known)
+invariant_of-self c = (c.perform.ensures.sound, c.perform.ensures.cache, c.perform.ensures.known)
 
 pub returns-in-Ok-clause-stepped : goal.returns-in-Ok-clause-stepped
 returns-in-Ok-clause-stepped c =

@@ -1,0 +1,12 @@
+use Rattle.std.proofs.Common.{◌≡◌, ℕ, Err, refl, ap}
+use Rattle.ct_closure.specs.Closed.{HasMoreThan, most_closure_terms}
+use Rattle.ct_closure.specs.ClosedTable.{terms_at}
+use Rattle.ct_engine.specs.declared.error.SolveError.{SolveError}
+use Rattle.ct_step.specs.Numbers.{closure_too_large}
+use Rattle.ct_step.proofs.CauseLemmas.{at_code}
+use Rattle.ct_step.proofs.check.search.Goals as goal
+
+pub returns-in-Err-TooLarge-clause-refused : goal.returns-in-Err-TooLarge-clause-refused
+returns-in-Err-TooLarge-clause-refused c =
+    at_code (λ (n : ℕ). (n ≡ closure_too_large) × HasMoreThan c.args.sig.now (terms_at c.args.table.now c.args.asserts.now) most_closure_terms) closure_too_large
+    (refl, c.in-Err-TooLarge.ensures.too_large (ap (λ (f : SolveError). Err f) c.in-Err-TooLarge.field-0-is))
