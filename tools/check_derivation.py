@@ -810,11 +810,6 @@ BOOLEAN_OPTIONS = frozenset(
 LOGIC_PART = re.compile(rb"AX|A|UF|BV|FP|DT|S|IDL|RDL|LIA|LRA|LIRA|NIA|NRA|NIRA")
 
 
-def is_literal(text):
-    """Whether it is a symbol, or the negation of one."""
-    return name_of(text) is not None or type(text) is list and len(text) == 2 and text[0] == b"not" and name_of(text[1]) is not None
-
-
 def is_logic(name):
     """Whether the name is one without parts, or different parts one after another, with `QF_` before them or without."""
     if name in (b"ALL", b"ALL_SUPPORTED"):
@@ -836,6 +831,7 @@ class Script:
         """All as at the start, but for the number of checks."""
         self.globally = False
         self.ends_at_errors = False  # whether a refused command ends the script
+        self.standing = None  # the word of the check whose verdict stands, whatever it is
         self.outset()
 
     def outset(self):
@@ -854,12 +850,14 @@ class Script:
 
     def answer(self, command, wanted):
         """Does a command, and says whether nothing after it is looked at: it is `exit`, the check of the number that is wanted, or a
-        refused command where these end the script. A command that asks for what a verdict left is refused here for its form alone."""
+        refused command where these end the script. A command that asks for what a verdict left is refused here for its form, or where
+        no such verdict stands."""
         word = command[0] if command else None
         if word == b"exit" and len(command) == 1:
             return True
         if word == b"check-sat" and len(command) == 1:
             self.checks += 1
+            self.standing = word
             return self.checks == wanted
         before = self.declared()
         try:
@@ -868,6 +866,10 @@ class Script:
         except Refused:
             self.take_back(*before)
             return self.ends_at_errors
+        if word in CHANGES:
+            self.standing = None
+        elif word == b"check-sat-assuming":
+            self.standing = word
         return False
 
     def declared(self):
@@ -1039,15 +1041,40 @@ class Script:
     def echo(self, *rest):
         require(len(rest) == 1 and type(rest[0]) is bytes and rest[0][0] == ord('"'))
 
-    def ask(self, *rest):
-        """Asks for what a verdict left, without arguments."""
+    def alone(self, *rest):
+        """Is refused where something follows."""
         require(not rest)
 
+    def ask(self, *rest):
+        """Asks for what the verdict of a check left."""
+        require(not rest and self.standing)
+
     def get_value(self, *rest):
-        require(len(rest) == 1 and type(rest[0]) is list and rest[0])
+        require(len(rest) == 1 and type(rest[0]) is list and rest[0] and self.standing)
+
+    def get_proof(self, *rest):
+        require(not rest and self.standing == b"check-sat")
+
+    def get_unsat_assumptions(self, *rest):
+        require(not rest and self.standing == b"check-sat-assuming")
 
     def check_sat_assuming(self, *rest):
-        require(len(rest) == 1 and type(rest[0]) is list and all(map(is_literal, rest[0])))
+        """Reads the terms, and creates the sorts that they need. Nothing stays asserted."""
+        require(len(rest) == 1 and type(rest[0]) is list)
+        codes = [self.boolean(text)[1] for text in rest[0]]
+        mark = self.terms.mark()
+        try:
+            for code in codes:
+                self.terms.of_code(code)
+        finally:
+            self.terms.back_to(mark)
+
+    def boolean(self, text):
+        """The code of a term, which is to be Boolean."""
+        elaboration = Elaboration(self)
+        root = elaboration.root(text)
+        require(elaboration.sorts[root] is self.bool)
+        return elaboration.code(root, 0)
 
     def unsupported(self, *rest):
         """Is answered, whatever follows."""
@@ -1226,10 +1253,7 @@ class Script:
     def assert_(self, *rest):
         require(len(rest) == 1)
         text, label = labelled(rest[0])
-        elaboration = Elaboration(self)
-        root = elaboration.root(text)
-        require(elaboration.sorts[root] is self.bool)
-        code = elaboration.code(root, 0)
+        code = self.boolean(text)
         if label is not None:
             self.new([label], self.symbols)
             require(self.counts[Definition] < MOST_DEFINITIONS)
@@ -1293,12 +1317,18 @@ COMMANDS = {
     b"reset-assertions": Script.reset_assertions, b"reset": Script.reset,
     b"set-logic": Script.set_logic, b"set-info": Script.set_info, b"get-info": Script.get_setting,
     b"get-option": Script.get_setting, b"echo": Script.echo,
-    b"check-sat": Script.ask, b"exit": Script.ask, b"get-model": Script.ask, b"get-proof": Script.ask,
-    b"get-unsat-core": Script.ask, b"get-unsat-assumptions": Script.ask, b"get-value": Script.get_value,
+    b"check-sat": Script.alone, b"exit": Script.alone, b"get-model": Script.ask, b"get-proof": Script.get_proof,
+    b"get-unsat-core": Script.ask, b"get-unsat-assumptions": Script.get_unsat_assumptions, b"get-value": Script.get_value,
     b"check-sat-assuming": Script.check_sat_assuming,
     b"get-assertions": Script.unsupported, b"get-assignment": Script.unsupported,
     b"define-fun-rec": Script.unsupported, b"define-funs-rec": Script.unsupported,
     b"declare-sort-parameter": Script.unsupported,
+}
+
+# No verdict stands after one of these commands.
+CHANGES = {
+    b"declare-sort", b"define-sort", b"declare-datatype", b"declare-codatatype", b"declare-datatypes", b"declare-codatatypes",
+    b"declare-const", b"declare-fun", b"define-const", b"define-fun", b"assert", b"push", b"pop", b"reset-assertions", b"reset",
 }
 
 
