@@ -1,6 +1,7 @@
 //! What is stored between checks for speed alone, and may be dropped at any time.
 //!
-//! No clause of a command speaks of it: what a command does and answers is the same without it.
+//! No clause of a command speaks of it: all that a command promises holds with it and without it. Which model a check leaves may
+//! depend on it, and so may `sat` in place of `unknown`.
 ghost use Rattle.std.specs.Prelude.{◌≡◌, ◌<◌, ◌≤◌, length, None, All, Err, IfSome, IfOk, OnErr};
 ghost use Rattle.ct_sorts.specs.Consistent.{IsConsistent};
 ghost use Rattle.ct_sorts.specs.Marks.{CanCut, cut};
